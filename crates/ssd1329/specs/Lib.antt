@@ -1,0 +1,10 @@
+pub mod Area
+pub mod Chip
+pub mod Examples
+pub mod Glass
+pub mod Meaning
+pub mod Remap
+pub mod RowText
+pub mod RowTextCall
+pub mod Settings
+pub mod Wiring

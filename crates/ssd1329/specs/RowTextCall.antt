@@ -17,6 +17,7 @@ pub record Written (w : Wires) (c : Chip) (y : ℕ) (before after : List ℕ) (n
   pub row : y ≤ 127
   pub long : 1408 ≤ length before
   pub answer : n ≡ length (row-text w c y)
+  pub bound : n ≤ 1408
   pub text : after ≡ written before 0 (row-text w c y)
 
 -- the row is judged before the buffer, and a refusal leaves the buffer as it was

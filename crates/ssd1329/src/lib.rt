@@ -13,6 +13,7 @@ pub use laws::every_wiring_shows_the_memory;
 pub use laws::worked_examples_hold;
 pub use shows::Shows;
 pub use shows::ShowsDebug;
+pub use shows::ShowsDisplay;
 pub use shows::ShowsPartialEq;
 pub use transfer::Transfer;
 pub use transfer::TransferDebug;

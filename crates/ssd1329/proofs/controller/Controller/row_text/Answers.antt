@@ -29,4 +29,4 @@ unfolding row-text
 returns c =
     let gray : ℕ → ℕ = λ x. glass (wires (c .args .wiring .now)) (chip (c .args .self .now)) x (c .args .y) in
     let all = all-so-far gray (c .args .y) (c .loop-x .x) 128 (c .args .out .now) (c .loop-x .out) (c .loop-x .at) (omega arith) (c .loop-x .inv) in
-    record { row = omega arith; long = omega arith; answer = all .0; text = all .1 }
+    record { row = omega arith; long = omega arith; answer = all .0; bound = omega (arith, c .loop-x .inv .short); text = all .1 }

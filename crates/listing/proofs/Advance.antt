@@ -20,8 +20,8 @@ pub record On (s : List ℕ) (at n : ℕ) (r : Record) (slot : Option ℕ) : Typ
   pub more : listed (take n s) ≡ listed (take at s) ++ r ∷ []
 
 pub line-on : (s : List ℕ) (at w : ℕ) (r : Record) (slot after : Option ℕ) → at ≤ length s → Kept (take at s) slot
-  → Begins (take (length s - at) (drop at s)) r → w ≡ wide r → cond (allowed slot r) (Some (slot-then slot r)) None ≡ Some after
-  → On s at (at + w) r after
+    → Begins (take (length s - at) (drop at s)) r → w ≡ wide r → cond (allowed slot r) (Some (slot-then slot r)) None ≡ Some after
+    → On s at (at + w) r after
 line-on s at w r slot after h k b e f =
     let begins : Begins (drop at s) r = rw take-rest at b in
     let goes = followed (allowed slot r) (slot-then slot r) after f in

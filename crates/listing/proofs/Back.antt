@@ -85,9 +85,9 @@ only-line s r q h k b c = same-line r q (drop (wide r) s) (drop (wide q) s) h k 
 
 -- over one text, no listing goes further than where another is stuck
 no-further : (rs qs : List Record) (s : Option ℕ) (rest more : List ℕ)
-  → fits s rs ≡ true → fits s qs ≡ true → text rs ++ rest ≡ text qs ++ more
-  → ((r : Record) (x : List ℕ) → allowed (slot-after s rs) r ≡ true → rest ≡ line r ++ x → ⊥)
-  → length (text qs) ≤ length (text rs)
+    → fits s rs ≡ true → fits s qs ≡ true → text rs ++ rest ≡ text qs ++ more
+    → ((r : Record) (x : List ℕ) → allowed (slot-after s rs) r ≡ true → rest ≡ line r ++ x → ⊥)
+    → length (text qs) ≤ length (text rs)
 unfolding text fits slot-after
 no-further rs [] s rest more f g e stuck = omega arith
 no-further [] (q ∷ qs) s rest more f g e stuck =
@@ -113,18 +113,18 @@ whole-text s q rs l = sym (take-append-drop q s) ∙ ap (λ x. x ++ drop q s) (l
 
 -- where no line that may follow stands, the text is bad
 pub bad-here : (s : List ℕ) (p : ℕ) (rs : List Record) → p < length s → Lists (take p s) rs
-  → ((r : Record) → allowed (slot-after None rs) r ≡ true → Begins (drop p s) r → ⊥) → Bad-at s p
+    → ((r : Record) → allowed (slot-after None rs) r ≡ true → Begins (drop p s) r → ⊥) → Bad-at s p
 bad-here s p rs more front stuck = record {
-    more = more;
-    records = rs;
-    front = front;
-    longest = λ q qs h l.
+  more = more;
+  records = rs;
+  front = front;
+  longest = λ q qs h l.
       let far = no-further rs qs None (drop p s) (drop q s) (front .lawful) (l .lawful)
-            (sym (whole-text s p rs front) ∙ whole-text s q qs l)
-            (λ r x f e. stuck r f (line-begins r (drop p s) x e)) in
+      (sym (whole-text s p rs front) ∙ whole-text s q qs l)
+      (λ r x f e. stuck r f (line-begins r (drop p s) x e)) in
       let within : p ≤ length s = omega arith in
-      omega (arith, front-long s p rs within front, front-long s q qs h l)
-  }
+      omega (arith, front-long s p rs within front, front-long s q qs h l);
+}
 
 one-place : (s : List ℕ) (p q : ℕ) → Bad-at s p → Bad-at s q → p ≡ q
 one-place s p q b c =
@@ -140,11 +140,11 @@ not-both s p rs b l =
 
 pub laws : Laws
 laws = record {
-    unique = unique;
-    one-place = one-place;
-    not-both = not-both;
-    reads-back = reads-back;
-    writes-back = λ s rs l. ap text (reads-back s rs l) ∙ sym (l .spelled);
-    record-reads-back = first-line;
-    line-writes-back = line-back
-  }
+  unique = unique;
+  one-place = one-place;
+  not-both = not-both;
+  reads-back = reads-back;
+  writes-back = λ s rs l. ap text (reads-back s rs l) ∙ sym (l .spelled);
+  record-reads-back = first-line;
+  line-writes-back = line-back;
+}

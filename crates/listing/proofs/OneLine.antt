@@ -45,9 +45,9 @@ after-push s (q ∷ rs) r = after-push (slot-then s q) rs r
 
 pub more-lists : (s n : List ℕ) (rs : List Record) (r : Record) → Lists s rs → n ≡ s ++ line r → allowed (slot-after None rs) r ≡ true → Lists n (rs ++ r ∷ [])
 more-lists s n rs r l e f = record {
-    spelled = e ∙ ap (λ a. a ++ line r) (l .spelled) ∙ sym (text-push rs r);
-    lawful = fits-push None rs r (l .lawful) f
-  }
+  spelled = e ∙ ap (λ a. a ++ line r) (l .spelled) ∙ sym (text-push rs r);
+  lawful = fits-push None rs r (l .lawful) f;
+}
 
 -- what the test on the slot tells
 pub followed : (t : Bool) (s x : Option ℕ) → cond t (Some s) None ≡ Some x → (t ≡ true) × (s ≡ x)

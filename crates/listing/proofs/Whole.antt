@@ -33,11 +33,11 @@ whole x s to e d =
     record {
       short = (let l = ap length e in omega arith);
       records = listed (take (x .at) (x .text .now));
-      lists = record { spelled = sym all ∙ x .spelled; lawful = x .lawful }
+      lists = record { spelled = sym all ∙ x .spelled; lawful = x .lawful };
     }
 
 pub whole-replayed : (x : Reader) (s : List ℕ) (to : ℕ) (before after : Chip) → x .text .now ≡ s → Ended (x .text .now) (x .at) to
-  → after ≡ replayed before (listed (take (x .at) s)) → Replayed s before after
+    → after ≡ replayed before (listed (take (x .at) s)) → Replayed s before after
 unfolding whole
 whole-replayed x s to before after e d m =
     record { listing = whole x s to e d; meets = m ∙ ap (λ b. replayed before (listed (take (x .at) b))) (sym e) }

@@ -33,7 +33,7 @@ grown s n r slot k e f =
       kept = record {
         spelled = l .spelled ∙ ap text (sym back);
         lawful = ap (fits None) back ∙ l .lawful;
-        stands = ap (λ x. slot-then x r) (k .stands) ∙ sym (after-push None rs r) ∙ ap (slot-after None) (sym back)
+        stands = ap (λ x. slot-then x r) (k .stands) ∙ sym (after-push None rs r) ∙ ap (slot-after None) (sym back);
       };
-      more = back
+      more = back;
     }

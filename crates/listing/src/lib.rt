@@ -6,15 +6,17 @@ mod lines;
 mod reader;
 mod reads;
 mod record;
+#[cfg(test)]
+mod tests;
 mod view_text;
 mod writer;
 
 pub use laws::listings_are_plain;
 pub use reader::Reader;
+pub use reads::check;
+pub use reads::replay;
 pub use record::Record;
 pub use record::RecordDebug;
 pub use record::RecordPartialEq;
-pub use reads::check;
-pub use reads::replay;
 pub use view_text::view;
 pub use writer::write_record;

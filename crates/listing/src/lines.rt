@@ -87,11 +87,13 @@ pub fn follow(slot: Option<u16>, r: Record) -> Option<Option<u16>>
 {
     match (slot, r) {
         (None, Record::Open(n)) => {
-            if 0 < n && n < 10000 { Some(Some(n)) } else { None }
+            if 0 < n && n < 10000 {
+                Some(Some(n))
+            } else {
+                None
+            }
         }
-        (Some(left), Record::Sent(_)) => {
-            if 0 < left { Some(Some(left - 1)) } else { None }
-        }
+        (Some(left), Record::Sent(_)) => { if 0 < left { Some(Some(left - 1)) } else { None } }
         (Some(_), Record::Close) => Some(None),
         _ => None,
     }

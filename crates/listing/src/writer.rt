@@ -30,8 +30,24 @@ fn spell(r: Record) -> [u8; 7]
             b'0' + (n % 10) as u8,
             b'\n',
         ],
-        Record::Sent(Transfer::Command(b)) => [b'C', b'\t', hex_char(b / 16), hex_char(b % 16), b'\n', 0, 0],
-        Record::Sent(Transfer::Data(b)) => [b'D', b'\t', hex_char(b / 16), hex_char(b % 16), b'\n', 0, 0],
+        Record::Sent(Transfer::Command(b)) => [
+            b'C',
+            b'\t',
+            hex_char(b / 16),
+            hex_char(b % 16),
+            b'\n',
+            0,
+            0,
+        ],
+        Record::Sent(Transfer::Data(b)) => [
+            b'D',
+            b'\t',
+            hex_char(b / 16),
+            hex_char(b % 16),
+            b'\n',
+            0,
+            0,
+        ],
         Record::Close => [b'Z', b'\n', 0, 0, 0, 0, 0],
     }
 }

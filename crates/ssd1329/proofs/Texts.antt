@@ -121,7 +121,7 @@ none-so-far gray y before = record { put = record { text = sym (written-none bef
 
 -- a dot of gray 0 adds nothing
 pub dark-more : (gray : ℕ → ℕ) (y x g : ℕ) (before after : List ℕ) (end : ℕ) → g ≡ gray x → g ≤ 0
-  → So-far gray y x before after end → So-far gray y (x + 1) before after end
+    → So-far gray y x before after end → So-far gray y (x + 1) before after end
 dark-more gray y x g before after end e h s =
     let z : gray x ≡ 0 = omega arith in
     let same : text-before gray y x ≡ text-before gray y (x + 1) = sym (text-more gray y x ∙ ap (λ n. text-before gray y x ++ dot-text y x n) z ∙ append-nil (text-before gray y x)) in
@@ -130,7 +130,7 @@ dark-more gray y x g before after end e h s =
 
 -- any other adds its line
 pub lit-more : (gray : ℕ → ℕ) (y x g : ℕ) (before after next : List ℕ) (at end : ℕ) → g ≡ gray x → 0 < g → g < 16
-  → So-far gray y x before after at → Put after at (dot-line y x g) next end → So-far gray y (x + 1) before next end
+    → So-far gray y x before after at → Put after at (dot-line y x g) next end → So-far gray y (x + 1) before next end
 lit-more gray y x g before after next at end e h k s p =
     let b : eqb g 0 ≡ false = ne-eqb g 0 (λ z. omega arith) in
     let line : dot-text y x (gray x) ≡ dot-line y x g = ap (dot-text y x) (sym e) ∙ cond-false (eqb g 0) _ _ b in
@@ -141,7 +141,7 @@ lit-more gray y x g before after next at end e h k s p =
 
 -- the whole row
 pub all-so-far : (gray : ℕ → ℕ) (y x n : ℕ) (before after : List ℕ) (end : ℕ) → x ≡ n → So-far gray y x before after end
-  → (end ≡ length (text-before gray y n)) × (after ≡ written before 0 (text-before gray y n))
+    → (end ≡ length (text-before gray y n)) × (after ≡ written before 0 (text-before gray y n))
 all-so-far gray y x n before after end e s =
     let p : Put before 0 (text-before gray y n) after end = put-same (ap (text-before gray y) e) (s .put) in
     let m = p .ends in

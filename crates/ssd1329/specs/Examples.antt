@@ -9,7 +9,7 @@ use Rattle.ssd1329.specs.declared.transfer.Transfer.{Transfer}
 use Rattle.ssd1329.specs.declared.transfer.Transfer.the-variants.{Command, Data}
 use Rattle.ssd1329.specs.Settings.{Settings}
 use Rattle.ssd1329.specs.Chip.{Chip, reset, run, dropped, address}
-use Rattle.ssd1329.specs.Glass.{Wires, unmarked, place-of, row-of, shown, glass}
+use Rattle.ssd1329.specs.Glass.{card, unmarked, place-of, row-of, shown, glass}
 
 -- a controller at reset whose memory is all 0
 abbrev pub blank : Chip
@@ -53,4 +53,4 @@ pub record Worked-examples : Type 0 where
   pub first-common-turned : row-of turned 0 ≡ 7
   pub ninth-common-turned : row-of turned 8 ≡ 127
   pub fifth-goes-round : getD (five-bytes .memory) (address 0 0) 0 ≡ 5
-  pub flipped-place : place-of (record { mirrored = false; flipped = true; comb = false; shift = 5 }) 0 ≡ 4
+  pub flipped-place : place-of (card false true false 5) 0 ≡ 4

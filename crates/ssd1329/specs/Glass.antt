@@ -16,8 +16,11 @@ pub record Wires : Type 0 where
   pub comb : Bool
   pub shift : ℕ
 
+abbrev pub card : Bool → Bool → Bool → ℕ → Wires
+card mirrored flipped comb shift = record { mirrored = mirrored; flipped = flipped; comb = comb; shift = shift }
+
 abbrev pub unmarked : Wires
-unmarked = record { mirrored = false; flipped = false; comb = false; shift = 0 }
+unmarked = card false false false 0
 
 -- the segment of the dots (x, _)
 abbrev pub segment-of : Wires → ℕ → ℕ

@@ -12,7 +12,7 @@ mod rules;
 
 // What the next command byte is taken for.
 #[derive(Clone, Copy)]
-pub enum Awaited {
+pub(crate) enum Awaited {
     Opcode,
     FirstColumn,
     LastColumn(u8),
@@ -26,7 +26,7 @@ pub enum Awaited {
 
 // The part of the memory that data bytes fill, and the place of the next byte.
 #[derive(Drop)]
-pub struct Window {
+pub(crate) struct Window {
     left: u8,
     right: u8,
     top: u8,
@@ -39,7 +39,7 @@ pub struct Window {
 
 // The registers that say how memory comes to the glass.
 #[derive(Drop)]
-pub struct Registers {
+pub(crate) struct Registers {
     remap: u8,
     start: u8,
     offset: u8,

@@ -5,6 +5,8 @@ mod commands;
 mod controller;
 mod laws;
 mod shows;
+#[cfg(test)]
+mod tests;
 mod transfer;
 mod wiring;
 

@@ -7,11 +7,11 @@ ghost use Rattle.std.specs.declared.result.Result.the-variants.{Ok, Err};
 ghost use Rattle.refusal.specs.declared.refusals.Refusal.the-variants.{Position};
 ghost use Rattle.ssd1329.specs.Meaning.{chip, settings, wires};
 ghost use Rattle.ssd1329.specs.Glass.{common-on, row-of, cell, glass, shown};
-use refusal::Refusal;
-use crate::shows::Shows;
-use crate::wiring::Wiring;
 use super::Controller;
 use super::Registers;
+use crate::shows::Shows;
+use crate::wiring::Wiring;
+use refusal::Refusal;
 
 impl Registers {
     // The common that a pin carries.
@@ -70,10 +70,14 @@ impl Controller {
             63 - segment / 2
         };
         let byte = self.memory[line * 64 + column];
-        if segment % 2 == 0 { byte % 16 } else { byte / 16 }
+        if segment % 2 == 0 {
+            byte % 16
+        } else {
+            byte / 16
+        }
     }
 
-    pub fn gray(&self, wiring: &Wiring, x: usize, y: usize) -> u8
+    pub(super) fn gray(&self, wiring: &Wiring, x: usize, y: usize) -> u8
         requires { ⌜ x < 128 ⌝ ∗ ⌜ y < 128 ⌝ }
         ensures { λ r. ⌜ r ≡ glass (wires (now (wiring .entry))) (chip (now (self .entry))) x y ⌝ ∗ ⌜ r < 16 ⌝ }
     {

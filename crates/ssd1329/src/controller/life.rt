@@ -1,17 +1,18 @@
 // The beginning of a controller, the end of a slot, and its memory back.
 ghost use mathlib.Core.Path.{_≡_};
+ghost use lib.Dec.{eqb};
 ghost use Rattle.std.specs.Of.Vec.{vec-items, vec-len};
-ghost use Rattle.std.specs.Results.{Cases};
+ghost use Rattle.std.specs.Results.{Cases, isOk};
 ghost use Rattle.refusal.specs.declared.refusals.Refusal.the-variants.{Memory};
 ghost use Rattle.ssd1329.specs.Meaning.{chip, settings};
 ghost use Rattle.ssd1329.specs.Settings.{at-reset};
 ghost use Rattle.ssd1329.specs.Chip.{reset, dropped};
-use refusal::HandedBack;
-use refusal::Refusal;
 use super::Awaited;
 use super::Controller;
 use super::Registers;
 use super::Window;
+use refusal::HandedBack;
+use refusal::Refusal;
 
 impl Registers {
     fn at_reset() -> Registers
@@ -29,7 +30,8 @@ impl Registers {
 impl Controller {
     // A controller at reset over a memory of 8,192 bytes, whatever they are; other memory is handed back.
     pub fn new(memory: Vec<u8>) -> Result<Controller, HandedBack<Vec<u8>>>
-        ensures made { λ r. ⌜ Cases r (λ c. (vec-len memory ≡ 8192) × (chip c ≡ reset (vec-items memory))) (λ e. (vec-len memory ≡ 8192 → ⊥) × (e .refusal ≡ Memory) × (e .value ≡ memory)) ⌝ }
+        ensures judged { λ r. ⌜ isOk r ≡ eqb (vec-len memory) 8192 ⌝ }
+        ensures made { λ r. ⌜ Cases r (λ c. chip c ≡ reset (vec-items memory)) (λ e. (e .refusal ≡ Memory) × (e .value ≡ memory)) ⌝ }
     {
         if memory.len() != 8192 {
             return Err(HandedBack {
@@ -57,7 +59,7 @@ impl Controller {
         self.awake = false;
         self.astray = false;
         self.awaited = Awaited::Opcode;
-        self.held = None;
+        self.end_slot();
     }
 
     // The end of a slot drops a held byte, and moves no pointer.

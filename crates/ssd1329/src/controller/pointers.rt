@@ -14,7 +14,7 @@ fn following(first: u8, last: u8, n: u8) -> u8
 }
 
 impl Window {
-    pub fn whole() -> Window
+    pub(super) fn whole() -> Window
         ensures { λ r. ⌜ area r ≡ whole ⌝ }
     {
         Window {
@@ -27,7 +27,7 @@ impl Window {
         }
     }
 
-    pub fn set_columns(&mut self, left: u8, right: u8)
+    pub(super) fn set_columns(&mut self, left: u8, right: u8)
         requires { ⌜ left ≤ right ⌝ ∗ ⌜ right ≤ 63 ⌝ }
         ensures { λ _. ⌜ area (now (self .exit)) ≡ columns (area (now (self .entry))) left right ⌝ }
     {
@@ -36,7 +36,7 @@ impl Window {
         self.column = left;
     }
 
-    pub fn set_lines(&mut self, top: u8, bottom: u8)
+    pub(super) fn set_lines(&mut self, top: u8, bottom: u8)
         requires { ⌜ top ≤ bottom ⌝ ∗ ⌜ bottom ≤ 127 ⌝ }
         ensures { λ _. ⌜ area (now (self .exit)) ≡ lines (area (now (self .entry))) top bottom ⌝ }
     {
@@ -46,7 +46,7 @@ impl Window {
     }
 
     // On to the place of the next byte, along the line or down the column.
-    pub fn advance(&mut self, down: bool)
+    pub(super) fn advance(&mut self, down: bool)
         ensures { λ _. ⌜ area (now (self .exit)) ≡ advanced (area (now (self .entry))) down ⌝ }
     {
         let column = following(self.left, self.right, self.column);

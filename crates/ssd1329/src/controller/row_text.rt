@@ -4,9 +4,9 @@ ghost use lib.ListN.{length};
 ghost use Rattle.ssd1329.specs.Meaning.{chip, wires};
 ghost use Rattle.ssd1329.specs.RowText.{decimal, dot-line, Put};
 ghost use Rattle.ssd1329.specs.RowTextCall.{Row-written};
-use refusal::Refusal;
-use crate::wiring::Wiring;
 use super::Controller;
+use crate::wiring::Wiring;
+use refusal::Refusal;
 
 // The longest text of a row: 128 lines of at most 11 bytes.
 const LONGEST_ROW: usize = 1408;

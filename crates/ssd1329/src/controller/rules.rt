@@ -5,11 +5,11 @@ ghost use Rattle.std.specs.declared.option.Option.the-variants.{Some, None};
 ghost use Rattle.ssd1329.specs.Meaning.{chip, settings};
 ghost use Rattle.ssd1329.specs.Remap.{halves-swapped, runs-down};
 ghost use Rattle.ssd1329.specs.Chip.{swapped, put, stored, lost, awaiting, asleep-or-awake, opcode-met, command-met, data-met, met, step};
-use crate::commands;
-use crate::transfer::Transfer;
 use super::Awaited;
 use super::Controller;
 use super::Registers;
+use crate::commands;
+use crate::transfer::Transfer;
 
 fn swapped(b: u8) -> u8
     ensures { λ r. ⌜ r ≡ swapped b ⌝ }
@@ -37,14 +37,18 @@ impl Controller {
         ensures { λ _. ⌜ chip (now (self .exit)) ≡ put (chip (now (self .entry))) b ⌝ }
     {
         let at = self.window.line as usize * 64 + self.window.column as usize;
-        let byte = if self.registers.swaps_halves() { swapped(b) } else { b };
+        let byte = if self.registers.swaps_halves() {
+            swapped(b)
+        } else {
+            b
+        };
         self.memory[at] = byte;
         self.window.advance(self.registers.runs_down());
         self.held = None;
     }
 
     // A held byte is stored.
-    fn store_held(&mut self)
+    pub(super) fn store_held(&mut self)
         ensures { λ _. ⌜ chip (now (self .exit)) ≡ stored (chip (now (self .entry))) ⌝ }
     {
         if let Some(b) = self.held {

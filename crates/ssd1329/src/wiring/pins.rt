@@ -6,7 +6,7 @@ ghost use Rattle.ssd1329.specs.Glass.{segment-of, place-of, pin-of};
 use super::Wiring;
 
 impl Wiring {
-    pub fn segment(&self, x: usize) -> usize
+    pub(crate) fn segment(&self, x: usize) -> usize
         requires { ⌜ x < 128 ⌝ }
         ensures { λ r. ⌜ r ≡ segment-of (wires (now (self .entry))) x ⌝ ∗ ⌜ r < 128 ⌝ }
     {
@@ -18,10 +18,14 @@ impl Wiring {
         ensures { λ r. ⌜ r ≡ place-of (wires (now (self .entry))) y ⌝ ∗ ⌜ r < 128 ⌝ }
     {
         let shift = self.shift as usize;
-        if self.flipped { (127 - y + shift) % 128 } else { (y + shift) % 128 }
+        if self.flipped {
+            (127 - y + shift) % 128
+        } else {
+            (y + shift) % 128
+        }
     }
 
-    pub fn pin(&self, y: usize) -> usize
+    pub(crate) fn pin(&self, y: usize) -> usize
         requires { ⌜ y < 128 ⌝ }
         ensures { λ r. ⌜ r ≡ pin-of (wires (now (self .entry))) y ⌝ ∗ ⌜ r < 128 ⌝ }
     {

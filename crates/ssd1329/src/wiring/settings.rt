@@ -19,6 +19,10 @@ impl Wiring {
     pub fn offset(&self) -> u8
         ensures { λ r. ⌜ r ≡ settings-for (wires (now (self .entry))) .offset ⌝ }
     {
-        if self.flipped { self.shift } else { (128 - self.shift) % 128 }
+        if self.flipped {
+            self.shift
+        } else {
+            (128 - self.shift) % 128
+        }
     }
 }

@@ -20,12 +20,13 @@ loop-r-again c =
     let text = c .loop-r .reader .text .now in
     let at = c .loop-r .reader .at in
     let same : c .next .last .self .text .now ≡ text = search needs in
-    let on : Advanced text at (c .next .last .self .at) r = search needs in
-    (same ∙ i .0,
+    let on : Advanced text at (c .next .last .self .at) r = search needs in (
+      same ∙ i .0,
       c .meet .ensures ∙ ap (λ m. met m r) (i .1 ∙ ap (λ b. replayed start (listed (take at b))) (sym (i .0)))
-      ∙ sym (replayed-push start (listed (take at text)) r)
-      ∙ ap (replayed start) (sym (on .more))
-      ∙ ap (λ b. replayed start (listed (take (c .next .last .self .at) b))) (i .0))
+          ∙ sym (replayed-push start (listed (take at text)) r)
+          ∙ ap (replayed start) (sym (on .more))
+          ∙ ap (λ b. replayed start (listed (take (c .next .last .self .at) b))) (i .0),
+    )
 
 pub returns-in-Ok-None : need.returns-in-Ok-None
 returns-in-Ok-None c =
@@ -37,4 +38,4 @@ returns-in-Ok-None c =
 pub returns-in-Err : need.returns-in-Err
 returns-in-Err c =
     absurd (never-refused (c .args .text .now) (c .in-Err .bad .place) (c .in-Continue-check .ensures tt)
-      (subst (λ s. Refused-at s (c .in-Err .bad .place)) (c .loop-r .inv .0) (c .in-Err .ensures tt .read .0)))
+    (subst (λ s. Refused-at s (c .in-Err .bad .place)) (c .loop-r .inv .0) (c .in-Err .ensures tt .read .0)))

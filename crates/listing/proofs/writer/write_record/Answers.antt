@@ -17,6 +17,6 @@ returns c =
       room = omega arith;
       put = record {
         text = put-written (c .args .out .now) (c .copy-from-slice .last .self) (line r) at (at + n - at) (search needs) (omega (arith, line-long r));
-        ends = omega (arith, line-long r)
-      }
+        ends = omega (arith, line-long r);
+      };
     }

@@ -21,8 +21,9 @@ loop-x-again c =
     let g = c .gray-gray .result in
     let is = c .gray-gray .ensures in
     elim (c .if-gray-gt0 .came) [
-      then-gray-gt0 w ↦ so-far-is (w .out-is) (w .at-is) (lit-more gray y x g _ _ _ _ _ (is .0) (w .if-gray-gt0 .taken) (is .1) (c .loop-x .inv) (w .put-dot-at .ensures))
-    | else-gray-gt0 w ↦ so-far-is (w .out-is) (w .at-is) (dark-more gray y x g _ _ _ (is .0) (w .if-gray-gt0 .left) (c .loop-x .inv)) ]
+      | then-gray-gt0 w ↦ so-far-is (w .out-is) (w .at-is) (lit-more gray y x g _ _ _ _ _ (is .0) (w .if-gray-gt0 .taken) (is .1) (c .loop-x .inv) (w .put-dot-at .ensures))
+      | else-gray-gt0 w ↦ so-far-is (w .out-is) (w .at-is) (dark-more gray y x g _ _ _ (is .0) (w .if-gray-gt0 .left) (c .loop-x .inv))
+    ]
 
 pub returns : need.returns
 unfolding row-text

@@ -3,7 +3,7 @@ use mathlib.Core.Path.{_≡_, refl}
 use mathlib.Core.Bool.{Bool, true, false, cond}
 use Prim.Native.Nat.{ℕ, zero, suc}
 use lib.ListN.{replicate, getD}
-use Rattle.ssd1329.specs.Chip.{Chip, reset, step, run, dropped}
+use Rattle.ssd1329.specs.Chip.{Chip, reset, blank, step, run, dropped}
 use Rattle.ssd1329.specs.Glass.{Wires, unmarked, glass}
 use Rattle.ssd1329.specs.Examples.{lost-byte}
 
@@ -22,5 +22,5 @@ zero-glass w c z x y = simp (z, zero-either-way)
 
 -- the byte that the end of a slot dropped is not in the memory
 pub all-zero : (x y : ℕ) → glass unmarked lost-byte x y ≡ 0
-unfolding reset step run dropped
+unfolding reset blank step run dropped
 all-zero x y = zero-glass unmarked lost-byte (zeros 8192) x y

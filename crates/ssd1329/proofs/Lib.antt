@@ -1,3 +1,5 @@
 pub mod Blank
-pub mod Upright
+pub mod Fresh
+pub mod Sized
 pub mod Texts
+pub mod Upright

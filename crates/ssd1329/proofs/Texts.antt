@@ -150,3 +150,8 @@ all-so-far gray y x n before after end e s =
 pub so-far-is : {gray : ℕ → ℕ} {y x : ℕ} {before after other : List ℕ} {end to : ℕ} → other ≡ after → to ≡ end → So-far gray y x before after end → So-far gray y x before other to
 so-far-is {gray = gray} {y = y} {x = x} {before = before} {other = other} {end = end} e f s =
     subst (λ n. So-far gray y x before other n) (sym f) (subst (λ b. So-far gray y x before b end) (sym e) s)
+
+-- the front of the buffer, up to the end of what was put
+pub put-front : {s xs t : List ℕ} {at end : ℕ} → at ≤ length s → Put s at xs t end → take end t ≡ take at s ++ xs
+put-front {s = s} {xs = xs} {t = t} {at = at} {end = end} h p =
+    ap (λ n. take n t) (p .ends) ∙ ap (take (at + length xs)) (p .text) ∙ take-written s xs at h

@@ -3,7 +3,7 @@ use mathlib.Core.List.{List, [], _∷_}
 use mathlib.Core.Bool.{Bool, true, false, cond, _&&_}
 use Prim.Native.Nat.{ℕ, _+_, _*_, _/_, _%_}
 use lib.Dec.{eqb, leb}
-use lib.ListN.{set}
+use lib.ListN.{set, replicate}
 use Rattle.std.specs.declared.option.Option.{Option}
 use Rattle.std.specs.declared.option.Option.the-variants.{Some, None}
 use Rattle.ssd1329.specs.declared.controller.Awaited.{Awaited}
@@ -29,6 +29,10 @@ pub record Chip : Type 0 where
 -- reset does not set the memory
 unfoldable pub reset : List ℕ → Chip
 reset memory = record { memory = memory; area = whole; settings = at-reset; awake = false; astray = false; awaited = Opcode; held = None }
+
+-- a controller at reset whose memory is all 0
+unfoldable pub blank : Chip
+blank = reset (replicate 8192 0)
 
 -- the parts that a transfer changes
 

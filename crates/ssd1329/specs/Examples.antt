@@ -2,18 +2,14 @@
 use mathlib.Core.Path.{_≡_}
 use mathlib.Core.List.{List, [], _∷_, _++_, map}
 use mathlib.Core.Bool.{Bool, true, false}
-use Prim.Native.Nat.{ℕ, _<_}
-use lib.ListN.{replicate, getD}
+use Prim.Native.Nat.{ℕ}
+use lib.ListN.{getD}
 use Rattle.ssd1329.specs.declared.shows.Shows.the-variants.{Dark}
 use Rattle.ssd1329.specs.declared.transfer.Transfer.{Transfer}
 use Rattle.ssd1329.specs.declared.transfer.Transfer.the-variants.{Command, Data}
 use Rattle.ssd1329.specs.Settings.{Settings}
-use Rattle.ssd1329.specs.Chip.{Chip, reset, run, dropped, address}
+use Rattle.ssd1329.specs.Chip.{Chip, blank, run, dropped, address}
 use Rattle.ssd1329.specs.Glass.{card, unmarked, place-of, row-of, shown, glass}
-
--- a controller at reset whose memory is all 0
-abbrev pub blank : Chip
-blank = reset (replicate 8192 0)
 
 abbrev pub commands : List ℕ → List Transfer
 commands = map Command

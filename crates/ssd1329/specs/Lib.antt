@@ -1,6 +1,7 @@
 pub mod Area
 pub mod Chip
 pub mod Examples
+pub mod Fresh
 pub mod Glass
 pub mod Meaning
 pub mod Remap

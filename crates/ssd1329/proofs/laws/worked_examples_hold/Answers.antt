@@ -1,5 +1,5 @@
 use mathlib.Core.Path.{refl}
-use Rattle.ssd1329.specs.Chip.{reset, step, run, dropped}
+use Rattle.ssd1329.specs.Chip.{reset, blank, step, run, dropped}
 use Rattle.ssd1329.specs.Glass.{glass}
 use Rattle.ssd1329.specs.Examples.{Worked-examples}
 use Rattle.ssd1329.proofs.Blank.{all-zero}
@@ -7,7 +7,7 @@ use Rattle.ssd1329.proofs.laws.worked_examples_hold.Needs as need
 
 -- each example computes
 examples : Worked-examples
-unfolding reset step run dropped glass
+unfolding reset blank step run dropped glass
 examples =
     record {
       no-transfer-is-dark = refl;

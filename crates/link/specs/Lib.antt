@@ -1,0 +1,9 @@
+pub mod Links
+pub mod Listed
+pub mod ListedLaws
+pub mod Lives
+pub mod PanelLaws
+pub mod Panels
+pub mod Refusing
+pub mod Seats
+pub mod Space

@@ -1,0 +1,3 @@
+pub mod OneDot
+pub mod Outside
+pub mod Steps

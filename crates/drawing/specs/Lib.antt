@@ -1,0 +1,5 @@
+pub mod Clips
+pub mod Dots
+pub mod Drawing
+pub mod Pens
+pub mod Solids

@@ -1,0 +1,31 @@
+-- What a pen means, and what its calls do. Assumes nothing.
+use mathlib.Core.Path.{_≡_}
+use Prim.Native.Nat.{ℕ, _≤_, _<_}
+use Rattle.std.specs.declared.result.Result.{Result}
+use Rattle.std.specs.declared.result.Result.the-variants.{Ok, Err}
+use Rattle.refusal.specs.declared.refusals.Refusal.{Refusal}
+use Rattle.refusal.specs.declared.refusals.Refusal.the-variants.{Gray}
+use Rattle.drawing.specs.declared.pen.Pen.{Pen}
+use Rattle.drawing.specs.Clips.{Area, area, whole, common}
+
+pub record PenMeaning : Type 0 where
+  pub ink : ℕ
+  pub clip : Area
+
+abbrev pub pen-means : Pen → PenMeaning
+pen-means p = record { ink = p .setting .ink; clip = area (p .setting .clip) }
+
+abbrev pub fresh-pen : PenMeaning
+fresh-pen = record { ink = 15; clip = whole }
+
+abbrev pub with-ink : PenMeaning → ℕ → PenMeaning
+with-ink p gray = record { ink = gray; clip = p .clip }
+
+-- the clip is reduced to what it has in common with an area
+abbrev pub narrowed : PenMeaning → Area → PenMeaning
+narrowed p a = record { ink = p .ink; clip = common (p .clip) a }
+
+-- a gray above 15 is refused, and the pen stays as it was
+abbrev pub Inked : Pen → ℕ → Result (Unit {0}) Refusal → Pen → Type 0
+Inked before gray (Ok x) after = (gray ≤ 15) × (pen-means after ≡ with-ink (pen-means before) gray)
+Inked before gray (Err e) after = (15 < gray) × (e ≡ Gray) × (after ≡ before)

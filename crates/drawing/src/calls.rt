@@ -1,0 +1,74 @@
+// The drawing calls on a canvas.
+ghost use mathlib.Core.Path.{_≡_};
+ghost use Rattle.std.specs.declared.option.Option.the-variants.{Some};
+ghost use Rattle.drawing.specs.Clips.{position-refusal, rectangle-refusal};
+ghost use Rattle.drawing.specs.Drawing.{Painted, dot-paint, bar-paint, place-paint};
+ghost use Rattle.drawing.specs.Pens.{pen-means};
+ghost use Rattle.drawing.specs.Solids.{solid, solid-lawful};
+use crate::canvas::Canvas;
+use crate::corner::Corner;
+use crate::pen::Pen;
+use crate::rectangle::Rectangle;
+use picture::Picture;
+use refusal::Refusal;
+
+// One gray everywhere.
+#[derive(Clone, Copy)]
+struct Solid {
+    gray: u8,
+}
+
+impl Picture for Solid as SolidPicture {
+    ghost means = { λ s. solid (s .gray) };
+
+    ghost lawful = { λ s. solid-lawful (s .gray) };
+
+    fn width(&self) -> u32 {
+        128
+    }
+
+    fn height(&self) -> u32 {
+        128
+    }
+
+    fn dot(&self, x: u32, y: u32) -> Result<Option<u8>, Refusal> {
+        if x < 128 && y < 128 {
+            Ok(Some(self.gray.min(15)))
+        } else {
+            Err(Refusal::OutsidePicture)
+        }
+    }
+}
+
+impl Canvas {
+    // Gives the ink to w by h dots from (x, y), within the pen's clip. It checks the position first, then the size.
+    pub fn bar(&mut self, pen: &Pen, x: i32, y: i32, w: u32, h: u32) -> Result<(), Refusal>
+        ensures { λ r. ⌜ Painted (rectangle-refusal x y w h) (now (self .entry)) (bar-paint (pen-means (now (pen .entry))) x y w h) r (now (self .exit)) ⌝ }
+    {
+        let rectangle = Rectangle::new(x, y, w, h)?;
+        let part = pen.setting.clip.common(rectangle);
+        let ink = Solid { gray: pen.setting.ink };
+        self.fill(part, &ink, Corner { x: 0, y: 0 });
+        Ok(())
+    }
+
+    // Gives the ink to one dot.
+    pub fn dot(&mut self, pen: &Pen, x: i32, y: i32) -> Result<(), Refusal>
+        ensures { λ r. ⌜ Painted (position-refusal x y) (now (self .entry)) (dot-paint (pen-means (now (pen .entry))) x y) r (now (self .exit)) ⌝ }
+    {
+        self.bar(pen, x, y, 1, 1)
+    }
+
+    // Gives a picture's grays, its corner at (x, y); its clear dots keep what is there.
+    pub fn place<P: Picture>(&mut self, pen: &Pen, picture: &P, x: i32, y: i32) -> Result<(), Refusal>
+        ensures { λ r. ⌜ Painted (position-refusal x y) (now (self .entry)) (place-paint (pen-means (now (pen .entry))) (means (now (picture .entry))) x y) r (now (self .exit)) ⌝ }
+    {
+        let rectangle = match Rectangle::new(x, y, picture.width(), picture.height()) {
+            Ok(rectangle) => rectangle,
+            Err(refusal) => return Err(refusal),
+        };
+        let part = pen.setting.clip.common(rectangle);
+        self.fill(part, picture, Corner { x, y });
+        Ok(())
+    }
+}

@@ -1,0 +1,42 @@
+// A fresh pen, and its ink.
+ghost use mathlib.Core.Path.{_≡_};
+ghost use mathlib.Core.Bool.{cond};
+ghost use lib.Dec.{leb};
+ghost use Rattle.drawing.specs.Pens.{pen-means, fresh-pen, Inked};
+use crate::clip::Clip;
+use crate::span::Span;
+use refusal::Refusal;
+use super::Pen;
+use super::Setting;
+
+impl Pen {
+    // Ink 15, and the whole canvas as clip.
+    pub fn new() -> Pen
+        ensures { λ r. ⌜ pen-means r ≡ fresh-pen ⌝ }
+    {
+        let side = Span { from: 0, to: 128 };
+        Pen {
+            setting: Setting {
+                ink: 15,
+                clip: Clip {
+                    across: side,
+                    down: side,
+                },
+            },
+        }
+    }
+
+    // Sets the ink; a gray above 15 is refused.
+    pub fn ink(&mut self, gray: u8) -> Result<(), Refusal>
+        ensures { λ r. ⌜ Inked (now (self .entry)) gray r (now (self .exit)) ⌝ }
+    {
+        if gray > 15 {
+            return Err(Refusal::Gray);
+        }
+        self.setting = Setting {
+            ink: gray,
+            clip: self.setting.clip,
+        };
+        Ok(())
+    }
+}

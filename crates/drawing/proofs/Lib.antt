@@ -1,3 +1,4 @@
+pub mod Books
 pub mod OneDot
 pub mod Outside
 pub mod Steps

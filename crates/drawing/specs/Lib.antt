@@ -1,3 +1,4 @@
+pub mod Book
 pub mod Clips
 pub mod Dots
 pub mod Drawing

@@ -5,6 +5,7 @@ use Rattle.std.specs.declared.result.Result.{Result}
 use Rattle.std.specs.declared.result.Result.the-variants.{Ok, Err}
 use Rattle.refusal.specs.declared.refusals.Refusal.{Refusal}
 use Rattle.refusal.specs.declared.refusals.Refusal.the-variants.{Gray}
+use Rattle.drawing.specs.declared.pen.Setting.{Setting}
 use Rattle.drawing.specs.declared.pen.Pen.{Pen}
 use Rattle.drawing.specs.Clips.{Area, area, whole, common}
 
@@ -12,8 +13,11 @@ pub record PenMeaning : Type 0 where
   pub ink : ℕ
   pub clip : Area
 
+abbrev pub setting-means : Setting → PenMeaning
+setting-means s = record { ink = s .ink; clip = area (s .clip) }
+
 abbrev pub pen-means : Pen → PenMeaning
-pen-means p = record { ink = p .setting .ink; clip = area (p .setting .clip) }
+pen-means p = setting-means (p .setting)
 
 abbrev pub fresh-pen : PenMeaning
 fresh-pen = record { ink = 15; clip = whole }

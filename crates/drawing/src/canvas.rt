@@ -1,5 +1,6 @@
 // The canvas.
 mod fresh;
+mod looks;
 mod put;
 
 // 128 lines of 128 grays. Byte k of line y holds dots 2 × k, in its low half, and 2 × k + 1, in its high half.

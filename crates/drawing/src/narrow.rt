@@ -1,8 +1,9 @@
 // Narrowed drawings.
 ghost use mathlib.Core.Path.{_≡_};
 ghost use denote.Ref.{name};
+ghost use Rattle.drawing.specs.Book.{Narrowing, Ending};
 ghost use Rattle.drawing.specs.Clips.{area};
-ghost use Rattle.drawing.specs.Pens.{pen-means, narrowed};
+ghost use Rattle.drawing.specs.Pens.{pen-means, setting-means, narrowed};
 use crate::pen::Pen;
 use crate::pen::Setting;
 use crate::rectangle::Rectangle;
@@ -29,6 +30,7 @@ impl Pen {
         ensures same { λ r. ⌜ name (r .pen) ≡ name (self .entry) ⌝ }
         ensures was { λ r. ⌜ r .was ≡ now (self .entry) .setting ⌝ }
         ensures narrows { λ r. ⌜ pen-means (now (r .pen)) ≡ narrowed (pen-means (now (self .entry))) (area (rectangle .part)) ⌝ }
+        ensures book { λ r. ⌜ Narrowing (area (rectangle .part)) (pen-means (now (self .entry))) (pen-means (now (r .pen))) ⌝ }
     {
         let was = self.setting;
         self.setting = Setting {
@@ -42,7 +44,8 @@ impl Pen {
 impl Narrowed<'_> {
     // Ends the narrowed drawing here.
     pub fn end(self)
-        ensures { λ _. ⌜ now (self .exit .0) .setting ≡ self .entry .was ⌝ }
+        ensures former { λ _. ⌜ now (self .exit .0) .setting ≡ self .entry .was ⌝ }
+        ensures book { λ _. ⌜ Ending (setting-means (self .entry .was)) (pen-means (now (self .exit .0))) ⌝ }
     {
     }
 }

@@ -1,7 +1,6 @@
 // A fresh pen, and its ink.
 ghost use mathlib.Core.Path.{_≡_};
-ghost use mathlib.Core.Bool.{cond};
-ghost use lib.Dec.{leb};
+ghost use Rattle.drawing.specs.Book.{inks, Pen-by-the-book};
 ghost use Rattle.drawing.specs.Pens.{pen-means, fresh-pen, Inked};
 use crate::clip::Clip;
 use crate::span::Span;
@@ -28,7 +27,8 @@ impl Pen {
 
     // Sets the ink; a gray above 15 is refused.
     pub fn ink(&mut self, gray: u8) -> Result<(), Refusal>
-        ensures { λ r. ⌜ Inked (now (self .entry)) gray r (now (self .exit)) ⌝ }
+        ensures inked { λ r. ⌜ Inked (now (self .entry)) gray r (now (self .exit)) ⌝ }
+        ensures book { λ _. ⌜ Pen-by-the-book (inks gray) (pen-means (now (self .entry))) (pen-means (now (self .exit))) ⌝ }
     {
         if gray > 15 {
             return Err(Refusal::Gray);

@@ -1,0 +1,7 @@
+use borrow.Author.Needs.{needs}
+use Rattle.drawing.specs.Dots.{due}
+use Rattle.drawing.proofs.canvas.Canvas.is_due.Needs as need
+
+pub returns : need.returns
+unfolding due
+returns c = search needs

@@ -1,0 +1,54 @@
+// The drawing calls of a screen, each with a pen. They leave the link alone.
+ghost use mathlib.Core.Path.{_≡_};
+ghost use mathlib.Core.Bool.{cond, _&&_};
+ghost use lib.Dec.{ltb};
+ghost use Rattle.std.specs.declared.result.Result.the-variants.{Ok, Err};
+ghost use Rattle.refusal.specs.declared.refusals.Refusal.the-variants.{Position};
+ghost use Rattle.picture.specs.declared.pictures.Picture.{Ghosts as PictureGhosts};
+ghost use Rattle.drawing.specs.Book.{dots, bars, places, By-the-book};
+ghost use Rattle.drawing.specs.Clips.{position-refusal, rectangle-refusal};
+ghost use Rattle.drawing.specs.Dots.{gray};
+ghost use Rattle.drawing.specs.Drawing.{Painted, dot-paint, bar-paint, place-paint};
+ghost use Rattle.drawing.specs.Pens.{pen-means};
+ghost use Rattle.screen.specs.Screens.{Only-canvas};
+use super::Screen;
+use drawing::Pen;
+use link::Link;
+use picture::Picture;
+use refusal::Refusal;
+
+impl<L: Link> Screen<L> {
+    // Gives the ink to one dot.
+    pub fn dot(&mut self, pen: &Pen, x: i32, y: i32) -> Result<(), Refusal>
+        ensures painted { λ r. ⌜ Painted (position-refusal x y) (now (self .entry) .canvas) (dot-paint (pen-means (now (pen .entry))) x y) r (now (self .exit) .canvas) ⌝ }
+        ensures book { λ _. ⌜ By-the-book (dots x y) (pen-means (now (pen .entry))) (now (self .entry) .canvas) (now (self .exit) .canvas) ⌝ }
+        ensures else_same { λ _. ⌜ Only-canvas (now (self .entry)) (now (self .exit)) ⌝ }
+    {
+        self.canvas.dot(pen, x, y)
+    }
+
+    // Gives the ink to w by h dots from (x, y).
+    pub fn bar(&mut self, pen: &Pen, x: i32, y: i32, w: u32, h: u32) -> Result<(), Refusal>
+        ensures painted { λ r. ⌜ Painted (rectangle-refusal x y w h) (now (self .entry) .canvas) (bar-paint (pen-means (now (pen .entry))) x y w h) r (now (self .exit) .canvas) ⌝ }
+        ensures book { λ _. ⌜ By-the-book (bars x y w h) (pen-means (now (pen .entry))) (now (self .entry) .canvas) (now (self .exit) .canvas) ⌝ }
+        ensures else_same { λ _. ⌜ Only-canvas (now (self .entry)) (now (self .exit)) ⌝ }
+    {
+        self.canvas.bar(pen, x, y, w, h)
+    }
+
+    // Gives a picture's grays, its corner at (x, y).
+    pub fn place<P: Picture>(&mut self, pen: &Pen, picture: &P, x: i32, y: i32) -> Result<(), Refusal>
+        ensures painted { λ r. ⌜ Painted (position-refusal x y) (now (self .entry) .canvas) (place-paint (pen-means (now (pen .entry))) (P·Picture .means (now (picture .entry))) x y) r (now (self .exit) .canvas) ⌝ }
+        ensures book { λ _. ⌜ By-the-book (places (P·Picture .means (now (picture .entry))) x y) (pen-means (now (pen .entry))) (now (self .entry) .canvas) (now (self .exit) .canvas) ⌝ }
+        ensures else_same { λ _. ⌜ Only-canvas (now (self .entry)) (now (self .exit)) ⌝ }
+    {
+        self.canvas.place(pen, picture, x, y)
+    }
+
+    // The gray that is drawn at (x, y); a position above 127 is refused.
+    pub fn gray(&self, x: u32, y: u32) -> Result<u8, Refusal>
+        ensures { λ r. ⌜ r ≡ cond (ltb x 128 && ltb y 128) (Ok (gray (now (self .entry) .canvas) x y)) (Err Position) ⌝ }
+    {
+        self.canvas.gray(x, y)
+    }
+}

@@ -20,7 +20,7 @@ use Rattle.drawing.specs.Pens.{PenMeaning, narrowed}
 
 -- a paint that depends on the pen: drawn on the canvas, and entered in the book
 pub drawn-by-the-book : (refusal : Option Refusal) (paint : PenMeaning → Paint) (pen : PenMeaning) (before after : Canvas) (r : Result (Unit {0}) Refusal)
-  → Painted refusal before (paint pen) r after → (b : Book) → b .pen ≡ pen → Draws before b → Draws after (unless refusal (painted b (paint (b .pen))) b)
+    → Painted refusal before (paint pen) r after → (b : Book) → b .pen ≡ pen → Draws before b → Draws after (unless refusal (painted b (paint (b .pen))) b)
 drawn-by-the-book refusal paint pen before after (Ok x) p b same draws =
     λ x y hx hy.
     p .1 .grays x y hx hy ∙ ap (over (paint pen x y)) (draws x y hx hy)
@@ -33,9 +33,10 @@ drawn-by-the-book refusal paint pen before after (Err e) p b same draws =
 pub narrowing : (a : Area) (before after : PenMeaning) → after ≡ narrowed before a → Narrowing a before after
 narrowing a before after e b x y w h free same pen =
     let f : entered b (narrows x y w h) ≡ with-pen b (narrowed (b .pen) (covered x y w h)) (b .pen ∷ b .stack)
-          = ap (λ o. unless o (with-pen b (narrowed (b .pen) (covered x y w h)) (b .pen ∷ b .stack)) b) free in
-    (ap (λ (k : Book). k .pen) f ∙ ap (λ p. narrowed p (covered x y w h)) pen ∙ ap (narrowed before) (sym same) ∙ sym e,
-      ap (λ (k : Book). k .stack) f ∙ ap (λ p. p ∷ b .stack) pen)
+    = ap (λ o. unless o (with-pen b (narrowed (b .pen) (covered x y w h)) (b .pen ∷ b .stack)) b) free in (
+      ap (λ (k : Book). k .pen) f ∙ ap (λ p. narrowed p (covered x y w h)) pen ∙ ap (narrowed before) (sym same) ∙ sym e,
+      ap (λ (k : Book). k .stack) f ∙ ap (λ p. p ∷ b .stack) pen,
+    )
 
 pub ending : (was after : PenMeaning) → after ≡ was → Ending was after
 ending was after e b rest s =

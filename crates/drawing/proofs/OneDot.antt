@@ -67,9 +67,10 @@ pub put-is : (c : Canvas) (x y g new : ℕ) → x < 128 → y < 128 → g ≤ 15
     → Put c x y g (record { cells = set (c .cells) (y * 64 + x / 2) new; due = set (c .due) y (bitOr (getD (c .due) y 0) (2 ^ (x / 2))) })
 unfolding gray due
 put-is c x y g new hx hy hg lc ld small is changed = record {
-    grays = λ p q hp hq. let s = getD-set-is (c .cells) (y * 64 + x / 2) (q * 64 + p / 2) new (omega arith) in rw s (grind (arith, tells));
-    marks = λ q k hq hk. let s = getD-set-is (c .due) y q (bitOr (getD (c .due) y 0) (2 ^ (x / 2))) (omega arith) in let b = bit-set (getD (c .due) y 0) (x / 2) k in
-        let d : eqb (half (getD (c .cells) (y * 64 + x / 2) 0) x) g ≡ false = grind (arith, tells) in rw (s, d) (marked (getD (c .due) q 0) (getD (c .due) y 0) (bitOr (getD (c .due) y 0) (2 ^ (x / 2))) k q y (x / 2) b (λ e. ap (λ n. getD (c .due) n 0) e)) }
+  grays = λ p q hp hq. let s = getD-set-is (c .cells) (y * 64 + x / 2) (q * 64 + p / 2) new (omega arith) in rw s (grind (arith, tells));
+  marks = λ q k hq hk. let s = getD-set-is (c .due) y q (bitOr (getD (c .due) y 0) (2 ^ (x / 2))) (omega arith) in let b = bit-set (getD (c .due) y 0) (x / 2) k in
+      let d : eqb (half (getD (c .cells) (y * 64 + x / 2) 0) x) g ≡ false = grind (arith, tells) in rw (s, d) (marked (getD (c .due) q 0) (getD (c .due) y 0) (bitOr (getD (c .due) y 0) (2 ^ (x / 2))) k q y (x / 2) b (λ e. ap (λ n. getD (c .due) n 0) e));
+}
 
 pub put-none : (c : Canvas) (x y g : ℕ) → gray c x y ≡ g → Put c x y g c
 put-none c x y g e = record { grays = λ p q hp hq. grind (arith, tells); marks = λ q k hq hk. grind (arith, tells) }

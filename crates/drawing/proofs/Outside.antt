@@ -33,8 +33,8 @@ none-in : (s : Side) (p : ℕ) → empty s ≡ true → holds s p ≡ false
 none-in s p e = grind (arith, tells)
 
 both-ways : (e : Bool) (a b : Area) (p q : ℕ) → e ≡ (empty (joint (a .across) (b .across)) || empty (joint (a .down) (b .down)))
-  → inside (cond e (box 0 0 0 0) (record { across = joint (a .across) (b .across); down = joint (a .down) (b .down) })) p q
-  ≡ (holds (joint (a .across) (b .across)) p && holds (joint (a .down) (b .down)) q)
+    → inside (cond e (box 0 0 0 0) (record { across = joint (a .across) (b .across); down = joint (a .down) (b .down) })) p q
+    ≡ (holds (joint (a .across) (b .across)) p && holds (joint (a .down) (b .down)) q)
 both-ways true a b p q e =
     ⊎-elim (λ h. let n = none-in (joint (a .across) (b .across)) p h in rw n (grind (arith, tells))) (λ h. let n = none-in (joint (a .down) (b .down)) q h in rw n (grind (arith, tells))) (or-cases _ _ (sym e))
 both-ways false a b p q e = refl
@@ -85,7 +85,7 @@ too-far x w p m c e =
     ⊎-elim (λ h. let t = reached x w p m (behind-some (pos p -ℤ x) m e) h in grind (arith, tells)) (λ h. le-ltb m w h) (cases-lt m w)
 
 clear-at : (P : PictureMeaning) (a b : Option ℕ)
-  → ((m : ℕ) → a ≡ Some m → ltb m (P .width) ≡ false) ⊎ ((m : ℕ) → b ≡ Some m → ltb m (P .height) ≡ false) → at-both (seen P) a b ≡ None
+    → ((m : ℕ) → a ≡ Some m → ltb m (P .width) ≡ false) ⊎ ((m : ℕ) → b ≡ Some m → ltb m (P .height) ≡ false) → at-both (seen P) a b ≡ None
 clear-at P (Some i) (Some j) o = ⊎-elim (λ f. let e = f i refl in rw e) (λ f. let e = f j refl in grind (arith, tells)) o
 clear-at P (Some i) None o = refl
 clear-at P None (Some j) o = refl
@@ -99,11 +99,11 @@ placed-outside P x y p q e =
 
 -- a bar is filled with one gray
 pub bar-drawn : (c d : Canvas) (pen : PenMeaning) (x y : ℤ) (w h : ℕ) → pen .ink ≤ 15
-  → Drawn c (clipped (placed (solid (pen .ink)) (pos 0) (pos 0)) (common (pen .clip) (covered x y w h))) d → Drawn c (bar-paint pen x y w h) d
+    → Drawn c (clipped (placed (solid (pen .ink)) (pos 0) (pos 0)) (common (pen .clip) (covered x y w h))) d → Drawn c (bar-paint pen x y w h) d
 bar-drawn c d pen x y w h small so =
     drawn-like c d _ (bar-paint pen x y w h)
     (λ p q hp hq. ap (λ o. cond (inside (common (pen .clip) (covered x y w h)) p q) o None) (solid-placed (pen .ink) p q small hp hq)
-      ∙ ap (λ b. cond b (Some (pen .ink)) None) (common-inside (pen .clip) (covered x y w h) p q ∙ ap (λ b. inside (pen .clip) p q && b) (covered-inside x y w h p q hp hq))) so
+    ∙ ap (λ b. cond b (Some (pen .ink)) None) (common-inside (pen .clip) (covered x y w h) p q ∙ ap (λ b. inside (pen .clip) p q && b) (covered-inside x y w h p q hp hq))) so
 
 cut : (a b : Bool) (o : Option ℕ) → (b ≡ false → o ≡ None) → cond (a && b) o None ≡ cond a o None
 cut true true o n = refl
@@ -113,11 +113,11 @@ cut false false o n = refl
 
 -- a placed picture is filled in its rectangle
 pub place-drawn : (c d : Canvas) (pen : PenMeaning) (P : PictureMeaning) (x y : ℤ)
-  → Drawn c (clipped (placed P x y) (common (pen .clip) (covered x y (P .width) (P .height)))) d → Drawn c (place-paint pen P x y) d
+    → Drawn c (clipped (placed P x y) (common (pen .clip) (covered x y (P .width) (P .height)))) d → Drawn c (place-paint pen P x y) d
 place-drawn c d pen P x y so =
     drawn-like c d _ (place-paint pen P x y)
     (λ p q hp hq. ap (λ b. cond b (placed P x y p q) None) (common-inside (pen .clip) (covered x y (P .width) (P .height)) p q ∙ ap (λ b. inside (pen .clip) p q && b) (covered-inside x y (P .width) (P .height) p q hp hq))
-      ∙ cut (inside (pen .clip) p q) (covers x (P .width) p && covers y (P .height) q) (placed P x y p q) (placed-outside P x y p q)) so
+    ∙ cut (inside (pen .clip) p q) (covers x (P .width) p && covers y (P .height) q) (placed P x y p q) (placed-outside P x y p q)) so
 
 -- a size that is not refused leaves the position to be judged
 pub sized : (x y : ℤ) (w h : ℕ) → w ≤ 255 → h ≤ 255 → rectangle-refusal x y w h ≡ position-refusal x y

@@ -30,26 +30,29 @@ regroup d a b a′ b′ a″ b″ p q = grind (arith, tells)
 pub drawn-then : (c d e : Canvas) (t u v : Paint) → Drawn c t d → Drawn d u e
     → ((x y : ℕ) → x < 128 → y < 128 → Joins (t x y) (u x y) (v x y)) → Drawn c v e
 drawn-then c d e t u v f s j = record {
-    grays = λ x y hx hy. s .grays x y hx hy ∙ rw (f .grays x y hx hy) (join-gray (t x y) (u x y) (v x y) (gray c x y) (j x y hx hy));
-    marks = λ y k hy hk.
-        let l : 2 * k < 128 = omega arith in let r : 2 * k + 1 < 128 = omega arith in
-        s .marks y k hy hk ∙ rw (f .marks y k hy hk, f .grays (2 * k) y l hy, f .grays (2 * k + 1) y r hy)
-        (regroup (due c y k) (alters (t (2 * k) y) (gray c (2 * k) y)) (alters (t (2 * k + 1) y) (gray c (2 * k + 1) y)) _ _ _ _
-         (join-alters (t (2 * k) y) (u (2 * k) y) (v (2 * k) y) (gray c (2 * k) y) (j (2 * k) y l hy))
-         (join-alters (t (2 * k + 1) y) (u (2 * k + 1) y) (v (2 * k + 1) y) (gray c (2 * k + 1) y) (j (2 * k + 1) y r hy))) }
+  grays = λ x y hx hy. s .grays x y hx hy ∙ rw (f .grays x y hx hy) (join-gray (t x y) (u x y) (v x y) (gray c x y) (j x y hx hy));
+  marks = λ y k hy hk.
+      let l : 2 * k < 128 = omega arith in let r : 2 * k + 1 < 128 = omega arith in
+      s .marks y k hy hk ∙ rw (f .marks y k hy hk, f .grays (2 * k) y l hy, f .grays (2 * k + 1) y r hy)
+      (regroup (due c y k) (alters (t (2 * k) y) (gray c (2 * k) y)) (alters (t (2 * k + 1) y) (gray c (2 * k + 1) y)) _ _ _ _
+      (join-alters (t (2 * k) y) (u (2 * k) y) (v (2 * k) y) (gray c (2 * k) y) (j (2 * k) y l hy))
+      (join-alters (t (2 * k + 1) y) (u (2 * k + 1) y) (v (2 * k + 1) y) (gray c (2 * k + 1) y) (j (2 * k + 1) y r hy)));
+}
 
 -- a paint that paints nothing
 pub drawn-none : (c : Canvas) (t : Paint) → ((x y : ℕ) → x < 128 → y < 128 → t x y ≡ None) → Drawn c t c
 drawn-none c t n = record {
-    grays = λ x y hx hy. rw (n x y hx hy);
-    marks = λ y k hy hk. let l : 2 * k < 128 = omega arith in let r : 2 * k + 1 < 128 = omega arith in rw (n (2 * k) y l hy, n (2 * k + 1) y r hy) (grind (arith, tells)) }
+  grays = λ x y hx hy. rw (n x y hx hy);
+  marks = λ y k hy hk. let l : 2 * k < 128 = omega arith in let r : 2 * k + 1 < 128 = omega arith in rw (n (2 * k) y l hy, n (2 * k + 1) y r hy) (grind (arith, tells));
+}
 
 -- a paint that is the same on the canvas
 pub drawn-like : (c d : Canvas) (t u : Paint) → ((x y : ℕ) → x < 128 → y < 128 → t x y ≡ u x y) → Drawn c t d → Drawn c u d
 drawn-like c d t u h so = record {
-    grays = λ x y hx hy. rw (sym (h x y hx hy)) (so .grays x y hx hy);
-    marks = λ y k hy hk. let l : 2 * k < 128 = omega arith in let r : 2 * k + 1 < 128 = omega arith in
-        rw (sym (h (2 * k) y l hy), sym (h (2 * k + 1) y r hy)) (so .marks y k hy hk) }
+  grays = λ x y hx hy. rw (sym (h x y hx hy)) (so .grays x y hx hy);
+  marks = λ y k hy hk. let l : 2 * k < 128 = omega arith in let r : 2 * k + 1 < 128 = omega arith in
+      rw (sym (h (2 * k) y l hy), sym (h (2 * k + 1) y r hy)) (so .marks y k hy hk);
+}
 
 -- the paint of one dot
 abbrev spot : ℕ → ℕ → Option ℕ → Paint
@@ -57,8 +60,9 @@ spot a b o x y = cond (eqb x a && eqb y b) o None
 
 drawn-put : (c d : Canvas) (a b g : ℕ) → Put c a b g d → Drawn c (spot a b (Some g)) d
 drawn-put c d a b g h = record {
-    grays = λ x y hx hy. h .grays x y hx hy ∙ grind (arith, tells);
-    marks = λ y k hy hk. h .marks y k hy hk ∙ grind (arith, tells) }
+  grays = λ x y hx hy. h .grays x y hx hy ∙ grind (arith, tells);
+  marks = λ y k hy hk. h .marks y k hy hk ∙ grind (arith, tells);
+}
 
 -- one more dot of a line
 spot-joins : (t : Paint) (a b line x y : ℕ) → a ≤ b → Joins (lined t a b line x y) (spot b line (t b line) x y) (lined t a (b + 1) line x y)

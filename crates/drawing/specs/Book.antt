@@ -76,7 +76,7 @@ Pen-by-the-book call before after = (b : Book) → b .pen ≡ before → entered
 -- a narrowing by an area: of every rectangle that covers it, the book narrows to the same pen, and keeps the former one
 abbrev pub Narrowing : Area → PenMeaning → PenMeaning → Type 0
 Narrowing a before after = (b : Book) (x y : ℤ) (w h : ℕ) → rectangle-refusal x y w h ≡ None → a ≡ covered x y w h → b .pen ≡ before
-  → (entered b (narrows x y w h) .pen ≡ after) × (entered b (narrows x y w h) .stack ≡ before ∷ b .stack)
+    → (entered b (narrows x y w h) .pen ≡ after) × (entered b (narrows x y w h) .stack ≡ before ∷ b .stack)
 
 -- the end of a narrowed drawing that began with a pen: the book takes the same pen from its stack
 abbrev pub Ending : PenMeaning → PenMeaning → Type 0

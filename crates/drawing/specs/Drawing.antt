@@ -34,7 +34,7 @@ alters None old = false
 pub record Drawn (before : Canvas) (paint : Paint) (after : Canvas) : Type 0 where
   pub grays : (x y : ℕ) → x < 128 → y < 128 → gray after x y ≡ over (paint x y) (gray before x y)
   pub marks : (y k : ℕ) → y < 128 → k < 64
-    → due after y k ≡ (due before y k || (alters (paint (2 * k) y) (gray before (2 * k) y) || alters (paint (2 * k + 1) y) (gray before (2 * k + 1) y)))
+      → due after y k ≡ (due before y k || (alters (paint (2 * k) y) (gray before (2 * k) y) || alters (paint (2 * k + 1) y) (gray before (2 * k + 1) y)))
 
 -- a paint in an area alone
 abbrev pub clipped : Paint → Area → Paint

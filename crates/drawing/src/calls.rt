@@ -49,7 +49,9 @@ impl Canvas {
     {
         let rectangle = Rectangle::new(x, y, w, h)?;
         let part = pen.setting.clip.common(rectangle);
-        let ink = Solid { gray: pen.setting.ink };
+        let ink = Solid {
+            gray: pen.setting.ink,
+        };
         self.fill(part, &ink, Corner { x: 0, y: 0 });
         Ok(())
     }
@@ -63,7 +65,13 @@ impl Canvas {
     }
 
     // Gives a picture's grays, its corner at (x, y); its clear dots keep what is there.
-    pub fn place<P: Picture>(&mut self, pen: &Pen, picture: &P, x: i32, y: i32) -> Result<(), Refusal>
+    pub fn place<P: Picture>(
+        &mut self,
+        pen: &Pen,
+        picture: &P,
+        x: i32,
+        y: i32,
+    ) -> Result<(), Refusal>
         ensures painted { λ r. ⌜ Painted (position-refusal x y) (now (self .entry)) (place-paint (pen-means (now (pen .entry))) (means (now (picture .entry))) x y) r (now (self .exit)) ⌝ }
         ensures book { λ _. ⌜ By-the-book (places (means (now (picture .entry))) x y) (pen-means (now (pen .entry))) (now (self .entry)) (now (self .exit)) ⌝ }
     {

@@ -10,6 +10,8 @@ mod paint;
 mod pen;
 mod rectangle;
 mod span;
+#[cfg(test)]
+mod tests;
 
 pub use canvas::Canvas;
 pub use clip::Clip;

@@ -46,6 +46,5 @@ impl Narrowed<'_> {
     pub fn end(self)
         ensures former { λ _. ⌜ now (self .exit .0) .setting ≡ self .entry .was ⌝ }
         ensures book { λ _. ⌜ Ending (setting-means (self .entry .was)) (pen-means (now (self .exit .0))) ⌝ }
-    {
-    }
+    {}
 }

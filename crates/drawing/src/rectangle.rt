@@ -45,7 +45,11 @@ impl Span {
     {
         let from = self.from.max(other.from);
         let to = self.to.min(other.to);
-        if from < to { Span { from, to } } else { Span { from: 0, to: 0 } }
+        if from < to {
+            Span { from, to }
+        } else {
+            Span { from: 0, to: 0 }
+        }
     }
 }
 

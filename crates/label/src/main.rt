@@ -13,6 +13,7 @@ use ssd1329::Wiring;
 use std::error::AnyError;
 
 const WIDTH: u32 = 40;
+
 const HEIGHT: u32 = 16;
 
 // A figure 8, eight dots wide and high, with its waist at the fourth line.

@@ -2,5 +2,7 @@
 //
 // docs/DRAWING.md has the rules in words.
 mod screens;
+#[cfg(test)]
+mod tests;
 
 pub use screens::Screen;

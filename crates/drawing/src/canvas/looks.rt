@@ -5,8 +5,8 @@ ghost use lib.Dec.{ltb};
 ghost use Rattle.std.specs.declared.result.Result.the-variants.{Ok, Err};
 ghost use Rattle.refusal.specs.declared.refusals.Refusal.the-variants.{Position};
 ghost use Rattle.drawing.specs.Dots.{gray, due};
-use refusal::Refusal;
 use super::Canvas;
+use refusal::Refusal;
 
 impl Canvas {
     // The gray of a dot; a position above 127 is refused.

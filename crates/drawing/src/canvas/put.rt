@@ -11,7 +11,11 @@ impl Canvas {
     {
         let i = y * 64 + x / 2;
         let old = self.cells[i];
-        let new = if x % 2 == 0 { old / 16 * 16 + gray } else { gray * 16 + old % 16 };
+        let new = if x % 2 == 0 {
+            old / 16 * 16 + gray
+        } else {
+            gray * 16 + old % 16
+        };
         if new != old {
             self.cells[i] = new;
             self.due[y] = self.due[y] | (1 << (x / 2));

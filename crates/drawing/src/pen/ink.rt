@@ -2,11 +2,11 @@
 ghost use mathlib.Core.Path.{_≡_};
 ghost use Rattle.drawing.specs.Book.{inks, Pen-by-the-book};
 ghost use Rattle.drawing.specs.Pens.{pen-means, fresh-pen, Inked};
+use super::Pen;
+use super::Setting;
 use crate::clip::Clip;
 use crate::span::Span;
 use refusal::Refusal;
-use super::Pen;
-use super::Setting;
 
 impl Pen {
     // Ink 15, and the whole canvas as clip.

@@ -37,7 +37,13 @@ impl<L: Link> Screen<L> {
     }
 
     // Gives a picture's grays, its corner at (x, y).
-    pub fn place<P: Picture>(&mut self, pen: &Pen, picture: &P, x: i32, y: i32) -> Result<(), Refusal>
+    pub fn place<P: Picture>(
+        &mut self,
+        pen: &Pen,
+        picture: &P,
+        x: i32,
+        y: i32,
+    ) -> Result<(), Refusal>
         ensures painted { λ r. ⌜ Painted (position-refusal x y) (now (self .entry) .canvas) (place-paint (pen-means (now (pen .entry))) (P·Picture .means (now (picture .entry))) x y) r (now (self .exit) .canvas) ⌝ }
         ensures book { λ _. ⌜ By-the-book (places (P·Picture .means (now (picture .entry))) x y) (pen-means (now (pen .entry))) (now (self .entry) .canvas) (now (self .exit) .canvas) ⌝ }
         ensures else_same { λ _. ⌜ Only-canvas (now (self .entry)) (now (self .exit)) ⌝ }

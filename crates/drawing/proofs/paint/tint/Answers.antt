@@ -24,8 +24,8 @@ returns-in-Ok g c =
     let j = c .in-Some-offset .down in
     record {
       value = seen-answer P i j (c .in-Ok .dot) (c .in-Ok .ensures tt)
-        ∙ placed-at P (c .args .at .x) (c .args .at .y) (c .args .x) (c .args .y) i j (simp toZ-ofZ at (c .in-Some .ensures tt)) (simp toZ-ofZ at (c .in-Some-offset .ensures tt));
-      small = seen-shade P i j (c .in-Ok .dot) (g .P·Picture .lawful (c .args .picture .now)) (c .in-Ok .ensures tt)
+          ∙ placed-at P (c .args .at .x) (c .args .at .y) (c .args .x) (c .args .y) i j (simp toZ-ofZ at (c .in-Some .ensures tt)) (simp toZ-ofZ at (c .in-Some-offset .ensures tt));
+      small = seen-shade P i j (c .in-Ok .dot) (g .P·Picture .lawful (c .args .picture .now)) (c .in-Ok .ensures tt);
     }
 
 pub returns-in-Err : need.returns-in-Err
@@ -37,6 +37,6 @@ returns-in-Err g c =
     let j = c .in-Some-offset .down in
     record {
       value = sym (seen-refusal P i j (c .in-Err .field-0) (c .in-Err .ensures tt))
-        ∙ placed-at P (c .args .at .x) (c .args .at .y) (c .args .x) (c .args .y) i j (simp toZ-ofZ at (c .in-Some .ensures tt)) (simp toZ-ofZ at (c .in-Some-offset .ensures tt));
-      small = tt
+          ∙ placed-at P (c .args .at .x) (c .args .at .y) (c .args .x) (c .args .y) i j (simp toZ-ofZ at (c .in-Some .ensures tt)) (simp toZ-ofZ at (c .in-Some-offset .ensures tt));
+      small = tt;
     }

@@ -18,8 +18,8 @@ returns c =
     let made = simp toZ-ofZ at (c .in-Continue-rectangle .ensures tt) in
     let part = c .common-part .ensures ∙ ap (common (pen .clip)) (made .1) in
     let drawn = bar-drawn (c .args .self .now) (c .fill .last .self) pen x y w h (c .args .pen .now .setting .gray)
-      (subst (λ a. Drawn (c .args .self .now) (clipped (placed (solid (pen .ink)) (pos 0) (pos 0)) a) (c .fill .last .self)) part (c .fill .ensures)) in
+    (subst (λ a. Drawn (c .args .self .now) (clipped (placed (solid (pen .ink)) (pos 0) (pos 0)) a) (c .fill .last .self)) part (c .fill .ensures)) in
     record {
       painted = (made .0, drawn);
-      book = drawn-by-the-book (rectangle-refusal x y w h) (λ p. bar-paint p x y w h) pen (c .args .self .now) (c .fill .last .self) (Ok tt) (made .0, drawn)
+      book = drawn-by-the-book (rectangle-refusal x y w h) (λ p. bar-paint p x y w h) pen (c .args .self .now) (c .fill .last .self) (Ok tt) (made .0, drawn);
     }

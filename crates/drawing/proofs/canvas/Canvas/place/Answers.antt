@@ -22,7 +22,7 @@ returns-in-Err g c =
     let told = sym (sized x y w h (omega arith) (omega arith)) ∙ why in
     record {
       painted = (told, refl);
-      book = drawn-by-the-book (position-refusal x y) (λ p. place-paint p P x y) (pen-means (c .args .pen .now)) me me (Err (c .in-Err .refusal)) (told, refl)
+      book = drawn-by-the-book (position-refusal x y) (λ p. place-paint p P x y) (pen-means (c .args .pen .now)) me me (Err (c .in-Err .refusal)) (told, refl);
     }
 
 pub returns : need.returns
@@ -38,8 +38,8 @@ returns g c =
     let part = c .common-part .ensures ∙ ap (common (pen .clip)) (made .1 ∙ ap (λ n. covered x y n h) (c .width .ensures) ∙ ap (covered x y (P .width)) (c .height .ensures)) in
     let free = sym (sized x y w h (omega arith) (omega arith)) ∙ made .0 in
     let drawn = place-drawn (c .args .self .now) (c .fill .last .self) pen P x y
-      (subst (λ a. Drawn (c .args .self .now) (clipped (placed P x y) a) (c .fill .last .self)) part (simp toZ-ofZ at (c .fill .ensures))) in
+    (subst (λ a. Drawn (c .args .self .now) (clipped (placed P x y) a) (c .fill .last .self)) part (simp toZ-ofZ at (c .fill .ensures))) in
     record {
       painted = (free, drawn);
-      book = drawn-by-the-book (position-refusal x y) (λ p. place-paint p P x y) pen (c .args .self .now) (c .fill .last .self) (Ok tt) (free, drawn)
+      book = drawn-by-the-book (position-refusal x y) (λ p. place-paint p P x y) pen (c .args .self .now) (c .fill .last .self) (Ok tt) (free, drawn);
     }

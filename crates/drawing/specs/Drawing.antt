@@ -12,7 +12,7 @@ use Rattle.refusal.specs.declared.refusals.Refusal.{Refusal}
 use Rattle.picture.specs.Pictures.{PictureMeaning}
 use Rattle.picture.specs.Parts.{seen}
 use Rattle.drawing.specs.declared.canvas.Canvas.{Canvas}
-use Rattle.drawing.specs.Clips.{Area, Side, holds, inside, covers}
+use Rattle.drawing.specs.Clips.{Area, Side, holds, inside, covers, position-refusal, rectangle-refusal}
 use Rattle.drawing.specs.Dots.{gray, due}
 use Rattle.drawing.specs.Pens.{PenMeaning}
 
@@ -70,6 +70,16 @@ place-paint pen p a b = clipped (placed p a b) (pen .clip)
 abbrev pub Painted : Option Refusal → Canvas → Paint → Result (Unit {0}) Refusal → Canvas → Type 0
 Painted refusal before paint (Ok x) after = (refusal ≡ None) × Drawn before paint after
 Painted refusal before paint (Err e) after = (refusal ≡ Some e) × (after ≡ before)
+
+-- the same of each drawing call
+abbrev pub Dot-step : PenMeaning → ℤ → ℤ → Canvas → Result (Unit {0}) Refusal → Canvas → Type 0
+Dot-step pen x y before r after = Painted (position-refusal x y) before (dot-paint pen x y) r after
+
+abbrev pub Bar-step : PenMeaning → ℤ → ℤ → ℕ → ℕ → Canvas → Result (Unit {0}) Refusal → Canvas → Type 0
+Bar-step pen x y w h before r after = Painted (rectangle-refusal x y w h) before (bar-paint pen x y w h) r after
+
+abbrev pub Place-step : PenMeaning → PictureMeaning → ℤ → ℤ → Canvas → Result (Unit {0}) Refusal → Canvas → Type 0
+Place-step pen p x y before r after = Painted (position-refusal x y) before (place-paint pen p x y) r after
 
 -- parts of a fill: a paint on places from a to before b of one line; and in a side's columns, on lines from a to before b
 abbrev pub lined : Paint → ℕ → ℕ → ℕ → Paint

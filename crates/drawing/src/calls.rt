@@ -1,9 +1,6 @@
 // The drawing calls on a canvas.
-ghost use mathlib.Core.Path.{_≡_};
-ghost use Rattle.std.specs.declared.option.Option.the-variants.{Some};
 ghost use Rattle.drawing.specs.Book.{bars, dots, places, By-the-book};
-ghost use Rattle.drawing.specs.Clips.{position-refusal, rectangle-refusal};
-ghost use Rattle.drawing.specs.Drawing.{Painted, dot-paint, bar-paint, place-paint};
+ghost use Rattle.drawing.specs.Drawing.{Dot-step, Bar-step, Place-step};
 ghost use Rattle.drawing.specs.Pens.{pen-means};
 ghost use Rattle.drawing.specs.Solids.{solid, solid-lawful};
 use crate::canvas::Canvas;
@@ -44,7 +41,7 @@ impl Picture for Solid as SolidPicture {
 impl Canvas {
     // Gives the ink to w by h dots from (x, y), within the pen's clip. It checks the position first, then the size.
     pub fn bar(&mut self, pen: &Pen, x: i32, y: i32, w: u32, h: u32) -> Result<(), Refusal>
-        ensures painted { λ r. ⌜ Painted (rectangle-refusal x y w h) (now (self .entry)) (bar-paint (pen-means (now (pen .entry))) x y w h) r (now (self .exit)) ⌝ }
+        ensures painted { λ r. ⌜ Bar-step (pen-means (now (pen .entry))) x y w h (now (self .entry)) r (now (self .exit)) ⌝ }
         ensures book { λ _. ⌜ By-the-book (bars x y w h) (pen-means (now (pen .entry))) (now (self .entry)) (now (self .exit)) ⌝ }
     {
         let rectangle = Rectangle::new(x, y, w, h)?;
@@ -58,7 +55,7 @@ impl Canvas {
 
     // Gives the ink to one dot.
     pub fn dot(&mut self, pen: &Pen, x: i32, y: i32) -> Result<(), Refusal>
-        ensures painted { λ r. ⌜ Painted (position-refusal x y) (now (self .entry)) (dot-paint (pen-means (now (pen .entry))) x y) r (now (self .exit)) ⌝ }
+        ensures painted { λ r. ⌜ Dot-step (pen-means (now (pen .entry))) x y (now (self .entry)) r (now (self .exit)) ⌝ }
         ensures book { λ _. ⌜ By-the-book (dots x y) (pen-means (now (pen .entry))) (now (self .entry)) (now (self .exit)) ⌝ }
     {
         self.bar(pen, x, y, 1, 1)
@@ -72,7 +69,7 @@ impl Canvas {
         x: i32,
         y: i32,
     ) -> Result<(), Refusal>
-        ensures painted { λ r. ⌜ Painted (position-refusal x y) (now (self .entry)) (place-paint (pen-means (now (pen .entry))) (means (now (picture .entry))) x y) r (now (self .exit)) ⌝ }
+        ensures painted { λ r. ⌜ Place-step (pen-means (now (pen .entry))) (means (now (picture .entry))) x y (now (self .entry)) r (now (self .exit)) ⌝ }
         ensures book { λ _. ⌜ By-the-book (places (means (now (picture .entry))) x y) (pen-means (now (pen .entry))) (now (self .entry)) (now (self .exit)) ⌝ }
     {
         let rectangle = match Rectangle::new(x, y, picture.width(), picture.height()) {

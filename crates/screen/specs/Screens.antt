@@ -8,7 +8,9 @@ use Rattle.std.specs.declared.option.Option.the-variants.{Some, None}
 use Rattle.ssd1329.specs.Glass.{Wires}
 use Rattle.ssd1329.specs.Meaning.{wires}
 use Rattle.drawing.specs.declared.canvas.Canvas.{Canvas}
+use Rattle.drawing.specs.Book.{Call, By-the-book}
 use Rattle.drawing.specs.Dots.{fresh-canvas}
+use Rattle.drawing.specs.Pens.{PenMeaning}
 use Rattle.link.specs.declared.links.Link.{Ghosts}
 use Rattle.link.specs.Links.{LinkMeaning}
 use Rattle.screen.specs.declared.screens.Screen.{Screen}
@@ -32,6 +34,10 @@ fresh-link m = is-shut (m .slot) && eqb (m .taken) 0
 
 abbrev pub fresh-screen : Wires → LinkMeaning → ScreenMeaning
 fresh-screen w m = record { wiring = w; canvas = fresh-canvas; link = m }
+
+-- the canvas went from one drawing to the next as the book has it
+abbrev pub Drawn-by-the-book : {L : Type 0} → Call → PenMeaning → Screen L → Screen L → Type 0
+Drawn-by-the-book call pen before after = By-the-book call pen (before .canvas) (after .canvas)
 
 -- wiring and link are as they were
 pub record Only-canvas {L : Type 0} (before after : Screen L) : Type 0 where

@@ -3,6 +3,10 @@ use mathlib.Core.Bool.{Bool, true, false, cond, not, _&&_}
 use Prim.Native.Nat.{ℕ, _+_, _-_, _*_, _/_, _%_}
 use lib.Dec.{eqb, ltb}
 use lib.ListN.{getD}
+use Rattle.std.specs.declared.result.Result.{Result}
+use Rattle.std.specs.declared.result.Result.the-variants.{Ok, Err}
+use Rattle.refusal.specs.declared.refusals.Refusal.{Refusal}
+use Rattle.refusal.specs.declared.refusals.Refusal.the-variants.{Position}
 use Rattle.ssd1329.specs.declared.shows.Shows.{Shows}
 use Rattle.ssd1329.specs.declared.shows.Shows.the-variants.{Astray, Dark, Lit}
 use Rattle.ssd1329.specs.Settings.{Settings}
@@ -67,3 +71,7 @@ shown c = cond (c .astray) Astray (cond (c .awake) Lit Dark)
 -- the gray of dot (x, y), counted from the top left; every dot is 0 where the glass is not lit
 unfoldable pub glass : Wires → Chip → ℕ → ℕ → ℕ
 glass w c x y = cond (lit c) (cell c (segment-of w x) (row-of (c .settings) (common-on (c .settings) (pin-of w y)))) 0
+
+-- what a caller is told who asks for a dot: a position above 127 is refused
+abbrev pub glass-answer : Wires → Chip → ℕ → ℕ → Result ℕ Refusal
+glass-answer w c x y = cond (ltb x 128 && ltb y 128) (Ok (glass w c x y)) (Err Position)

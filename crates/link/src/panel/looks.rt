@@ -1,11 +1,7 @@
 // What a panel's glass shows.
 ghost use mathlib.Core.Path.{_≡_};
-ghost use mathlib.Core.Bool.{cond, _&&_};
-ghost use lib.Dec.{ltb};
-ghost use Rattle.std.specs.declared.result.Result.the-variants.{Ok, Err};
-ghost use Rattle.refusal.specs.declared.refusals.Refusal.the-variants.{Position};
 ghost use Rattle.ssd1329.specs.Meaning.{wires};
-ghost use Rattle.ssd1329.specs.Glass.{glass, shown};
+ghost use Rattle.ssd1329.specs.Glass.{glass-answer, shown};
 ghost use Rattle.link.specs.Panels.{panel-meaning};
 use super::Panel;
 use super::seat::Seat;
@@ -26,7 +22,7 @@ impl Panel {
 
     // The gray of a dot; a position above 127 is refused.
     pub fn dot(&self, wiring: &Wiring, x: u32, y: u32) -> Result<u8, Refusal>
-        ensures { λ r. ⌜ r ≡ cond (ltb x 128 && ltb y 128) (Ok (glass (wires (now (wiring .entry))) (panel-meaning (now (self .entry)) .chip) x y)) (Err Position) ⌝ }
+        ensures { λ r. ⌜ r ≡ glass-answer (wires (now (wiring .entry))) (panel-meaning (now (self .entry)) .chip) x y ⌝ }
     {
         match &self.seat {
             Seat::Fit(controller) => controller.dot(wiring, x, y),

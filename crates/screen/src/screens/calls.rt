@@ -4,13 +4,11 @@ ghost use mathlib.Core.Bool.{cond, _&&_};
 ghost use lib.Dec.{ltb};
 ghost use Rattle.std.specs.declared.result.Result.the-variants.{Ok, Err};
 ghost use Rattle.refusal.specs.declared.refusals.Refusal.the-variants.{Position};
-ghost use Rattle.picture.specs.declared.pictures.Picture.{Ghosts as PictureGhosts};
-ghost use Rattle.drawing.specs.Book.{dots, bars, places, By-the-book};
-ghost use Rattle.drawing.specs.Clips.{position-refusal, rectangle-refusal};
+ghost use Rattle.drawing.specs.Book.{dots, bars, places};
 ghost use Rattle.drawing.specs.Dots.{gray};
-ghost use Rattle.drawing.specs.Drawing.{Painted, dot-paint, bar-paint, place-paint};
+ghost use Rattle.drawing.specs.Drawing.{Dot-step, Bar-step, Place-step};
 ghost use Rattle.drawing.specs.Pens.{pen-means};
-ghost use Rattle.screen.specs.Screens.{Only-canvas};
+ghost use Rattle.screen.specs.Screens.{Only-canvas, Drawn-by-the-book};
 use super::Screen;
 use drawing::Pen;
 use link::Link;
@@ -20,8 +18,8 @@ use refusal::Refusal;
 impl<L: Link> Screen<L> {
     // Gives the ink to one dot.
     pub fn dot(&mut self, pen: &Pen, x: i32, y: i32) -> Result<(), Refusal>
-        ensures painted { λ r. ⌜ Painted (position-refusal x y) (now (self .entry) .canvas) (dot-paint (pen-means (now (pen .entry))) x y) r (now (self .exit) .canvas) ⌝ }
-        ensures book { λ _. ⌜ By-the-book (dots x y) (pen-means (now (pen .entry))) (now (self .entry) .canvas) (now (self .exit) .canvas) ⌝ }
+        ensures painted { λ r. ⌜ Dot-step (pen-means (now (pen .entry))) x y (now (self .entry) .canvas) r (now (self .exit) .canvas) ⌝ }
+        ensures book { λ _. ⌜ Drawn-by-the-book (dots x y) (pen-means (now (pen .entry))) (now (self .entry)) (now (self .exit)) ⌝ }
         ensures else_same { λ _. ⌜ Only-canvas (now (self .entry)) (now (self .exit)) ⌝ }
     {
         self.canvas.dot(pen, x, y)
@@ -29,8 +27,8 @@ impl<L: Link> Screen<L> {
 
     // Gives the ink to w by h dots from (x, y).
     pub fn bar(&mut self, pen: &Pen, x: i32, y: i32, w: u32, h: u32) -> Result<(), Refusal>
-        ensures painted { λ r. ⌜ Painted (rectangle-refusal x y w h) (now (self .entry) .canvas) (bar-paint (pen-means (now (pen .entry))) x y w h) r (now (self .exit) .canvas) ⌝ }
-        ensures book { λ _. ⌜ By-the-book (bars x y w h) (pen-means (now (pen .entry))) (now (self .entry) .canvas) (now (self .exit) .canvas) ⌝ }
+        ensures painted { λ r. ⌜ Bar-step (pen-means (now (pen .entry))) x y w h (now (self .entry) .canvas) r (now (self .exit) .canvas) ⌝ }
+        ensures book { λ _. ⌜ Drawn-by-the-book (bars x y w h) (pen-means (now (pen .entry))) (now (self .entry)) (now (self .exit)) ⌝ }
         ensures else_same { λ _. ⌜ Only-canvas (now (self .entry)) (now (self .exit)) ⌝ }
     {
         self.canvas.bar(pen, x, y, w, h)
@@ -44,8 +42,8 @@ impl<L: Link> Screen<L> {
         x: i32,
         y: i32,
     ) -> Result<(), Refusal>
-        ensures painted { λ r. ⌜ Painted (position-refusal x y) (now (self .entry) .canvas) (place-paint (pen-means (now (pen .entry))) (P·Picture .means (now (picture .entry))) x y) r (now (self .exit) .canvas) ⌝ }
-        ensures book { λ _. ⌜ By-the-book (places (P·Picture .means (now (picture .entry))) x y) (pen-means (now (pen .entry))) (now (self .entry) .canvas) (now (self .exit) .canvas) ⌝ }
+        ensures painted { λ r. ⌜ Place-step (pen-means (now (pen .entry))) (P·Picture .means (now (picture .entry))) x y (now (self .entry) .canvas) r (now (self .exit) .canvas) ⌝ }
+        ensures book { λ _. ⌜ Drawn-by-the-book (places (P·Picture .means (now (picture .entry))) x y) (pen-means (now (pen .entry))) (now (self .entry)) (now (self .exit)) ⌝ }
         ensures else_same { λ _. ⌜ Only-canvas (now (self .entry)) (now (self .exit)) ⌝ }
     {
         self.canvas.place(pen, picture, x, y)

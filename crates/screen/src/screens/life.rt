@@ -15,7 +15,8 @@ impl<L: Link> Screen<L> {
     // A fresh screen over a link that is closed and has taken nothing; another link is handed back.
     pub fn new(wiring: Wiring, link: L) -> Result<Screen<L>, HandedBack<L>>
         ensures judged { λ r. ⌜ isOk r ≡ fresh-link (means link) ⌝ }
-        ensures made { λ r. ⌜ Cases r (λ s. (shows L·Link s ≡ fresh-screen (wires wiring) (means link)) × (s .link ≡ link)) (λ e. (e .refusal ≡ InUse) × (e .value ≡ link)) ⌝ }
+        ensures made { λ r. ⌜ Cases r (λ s. shows L·Link s ≡ fresh-screen (wires wiring) (means link)) (λ e. e .refusal ≡ InUse) ⌝ }
+        ensures kept { λ r. ⌜ Cases r (λ s. s .link ≡ link) (λ e. e .value ≡ link) ⌝ }
     {
         if link.left().is_some() || link.taken() > 0 {
             return Err(HandedBack {

@@ -1,12 +1,8 @@
 // What the glass shows.
 ghost use mathlib.Core.Path.{_≡_};
-ghost use mathlib.Core.Bool.{cond, _&&_};
 ghost use Prim.Native.Nat.{_<_};
-ghost use lib.Dec.{ltb};
-ghost use Rattle.std.specs.declared.result.Result.the-variants.{Ok, Err};
-ghost use Rattle.refusal.specs.declared.refusals.Refusal.the-variants.{Position};
 ghost use Rattle.ssd1329.specs.Meaning.{chip, settings, wires};
-ghost use Rattle.ssd1329.specs.Glass.{common-on, row-of, cell, glass, shown};
+ghost use Rattle.ssd1329.specs.Glass.{common-on, row-of, cell, glass, glass-answer, shown};
 use super::Controller;
 use super::Registers;
 use crate::shows::Shows;
@@ -90,7 +86,7 @@ impl Controller {
 
     // The gray of a dot, counted from the top left; a position above 127 is refused.
     pub fn dot(&self, wiring: &Wiring, x: u32, y: u32) -> Result<u8, Refusal>
-        ensures { λ r. ⌜ r ≡ cond (ltb x 128 && ltb y 128) (Ok (glass (wires (now (wiring .entry))) (chip (now (self .entry))) x y)) (Err Position) ⌝ }
+        ensures { λ r. ⌜ r ≡ glass-answer (wires (now (wiring .entry))) (chip (now (self .entry))) x y ⌝ }
     {
         if x < 128 && y < 128 {
             Ok(self.gray(wiring, x as usize, y as usize))

@@ -13,7 +13,8 @@ use lib.Seq.{getD-set-same, getD-set-other}
 use Rattle.std.proofs.shelf.Bits.{pow-pos, pow-add, pow-below, shl-shr}
 use Rattle.std.proofs.shelf.Tests.{cases-order, cases-eq, eq-eqb, ne-eqb}
 use Rattle.std.proofs.shelf.Ways.{tells}
-use Rattle.drawing.specs.Dots.{half, bit, gray, due, Put}
+use Rattle.marks.specs.Marks.{bit}
+use Rattle.drawing.specs.Dots.{half, gray, due, Put}
 use Rattle.drawing.specs.declared.canvas.Canvas.{Canvas}
 
 -- what a byte of a list is after a write
@@ -49,6 +50,7 @@ set-other w k j z = bit-num w (2 ^ k) j ∙ ap (λ (n : ℕ). bitOr (w / 2 ^ j %
 
 -- setting bit k sets that bit alone
 pub bit-set : (w k j : ℕ) → bit (bitOr w (2 ^ k)) j ≡ (bit w j || eqb j k)
+unfolding bit
 bit-set w k j =
     ⊎-elim (λ e. let s : bitOr w (2 ^ k) / 2 ^ j % 2 ≡ 1 = rw e (set-same w k) in grind (arith, tells))
     (⊎-elim (λ h. let s = set-other w k j (pow-at-low k j h) in grind (arith, tells)) (λ h. let s = set-other w k j (pow-at-high k j h) in grind (arith, tells)))

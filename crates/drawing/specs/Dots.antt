@@ -1,18 +1,15 @@
 -- The dots of a canvas, and its marks. Assumes nothing.
 use mathlib.Core.Path.{_≡_}
 use mathlib.Core.Bool.{Bool, _&&_, _||_, not, cond}
-use Prim.Native.Nat.{ℕ, _+_, _*_, _/_, _%_, _^_, _<_}
+use Prim.Native.Nat.{ℕ, _+_, _*_, _/_, _%_, _<_}
 use lib.Dec.{eqb}
 use lib.ListN.{getD, replicate}
+use Rattle.marks.specs.Marks.{bit}
 use Rattle.drawing.specs.declared.canvas.Canvas.{Canvas}
 
 -- one of the two dots of a byte: the low half is the even one
 abbrev pub half : ℕ → ℕ → ℕ
 half byte x = cond (eqb (x % 2) 0) (byte % 16) (byte / 16)
-
--- bit k of a word
-abbrev pub bit : ℕ → ℕ → Bool
-bit w k = eqb (w / 2 ^ k % 2) 1
 
 -- the gray of the dot (x, y)
 unfoldable pub gray : Canvas → ℕ → ℕ → ℕ

@@ -30,6 +30,6 @@ abbrev pub narrowed : PenMeaning → Area → PenMeaning
 narrowed p a = record { ink = p .ink; clip = common (p .clip) a }
 
 -- a gray above 15 is refused, and the pen stays as it was
-abbrev pub Inked : Pen → ℕ → Result (Unit {0}) Refusal → Pen → Type 0
-Inked before gray (Ok x) after = (gray ≤ 15) × (pen-means after ≡ with-ink (pen-means before) gray)
-Inked before gray (Err e) after = (15 < gray) × (e ≡ Gray) × (after ≡ before)
+abbrev pub Ink-step : PenMeaning → ℕ → Result (Unit {0}) Refusal → PenMeaning → Type 0
+Ink-step before gray (Ok x) after = (gray ≤ 15) × (after ≡ with-ink before gray)
+Ink-step before gray (Err e) after = (15 < gray) × (e ≡ Gray) × (after ≡ before)

@@ -8,6 +8,6 @@ mod put;
 // marks, and bit k of it is set when byte k is due.
 #[derive(Drop)]
 pub struct Canvas {
-    pub(crate) cells: [u8; 8192],
-    pub(crate) due: [u64; 128],
+    pub cells: [u8; 8192],
+    pub due: [u64; 128],
 }

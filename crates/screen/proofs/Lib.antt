@@ -1,1 +1,4 @@
 pub mod Fresh
+pub mod Settings
+pub mod Flush
+pub mod Rest

@@ -1,8 +1,15 @@
 // A screen: a canvas over a link of its own, for a module of some wiring.
 //
 // docs/DRAWING.md has the rules in words.
+mod answers;
+mod flushes;
 mod screens;
+mod sends;
+mod sweeps;
 #[cfg(test)]
 mod tests;
 
+pub use answers::FlushFault;
+pub use answers::LeftOver;
+pub use answers::Place;
 pub use screens::Screen;

@@ -1,7 +1,7 @@
 // A fresh pen, and its ink.
 ghost use mathlib.Core.Path.{_≡_};
 ghost use Rattle.drawing.specs.Book.{inks, Pen-by-the-book};
-ghost use Rattle.drawing.specs.Pens.{pen-means, fresh-pen, Inked};
+ghost use Rattle.drawing.specs.Pens.{pen-means, fresh-pen, Ink-step};
 use super::Pen;
 use super::Setting;
 use crate::clip::Clip;
@@ -27,7 +27,7 @@ impl Pen {
 
     // Sets the ink; a gray above 15 is refused.
     pub fn ink(&mut self, gray: u8) -> Result<(), Refusal>
-        ensures inked { λ r. ⌜ Inked (now (self .entry)) gray r (now (self .exit)) ⌝ }
+        ensures inked { λ r. ⌜ Ink-step (pen-means (now (self .entry))) gray r (pen-means (now (self .exit))) ⌝ }
         ensures book { λ _. ⌜ Pen-by-the-book (inks gray) (pen-means (now (self .entry))) (pen-means (now (self .exit))) ⌝ }
     {
         if gray > 15 {

@@ -4,6 +4,7 @@ ghost use Rattle.std.specs.Results.{Cases, isOk};
 ghost use Rattle.refusal.specs.declared.refusals.Refusal.the-variants.{InUse};
 ghost use Rattle.ssd1329.specs.Meaning.{wires};
 ghost use Rattle.screen.specs.Screens.{fresh-link, shows, fresh-screen};
+use super::Owed;
 use super::Screen;
 use drawing::Canvas;
 use link::Link;
@@ -28,6 +29,11 @@ impl<L: Link> Screen<L> {
             wiring,
             link,
             canvas: Canvas::new(),
+            lit: false,
+            owed: Owed {
+                remap: wiring.remap() != 0,
+                offset: wiring.offset() != 0,
+            },
         })
     }
 
@@ -39,6 +45,8 @@ impl<L: Link> Screen<L> {
             wiring: _,
             link,
             canvas: _,
+            lit: _,
+            owed: _,
         } = self;
         link
     }

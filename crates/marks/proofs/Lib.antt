@@ -1,0 +1,15 @@
+pub mod Accounts
+pub mod Bits
+pub mod Clear
+pub mod Counts
+pub mod Digits
+pub mod First
+pub mod Landing
+pub mod Model
+pub mod Over
+pub mod Rows
+pub mod Sends
+pub mod Sessions
+pub mod Some
+pub mod Sweep
+pub mod Zero

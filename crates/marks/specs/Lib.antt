@@ -1,0 +1,5 @@
+pub mod Blocks
+pub mod FirstRun
+pub mod Landing
+pub mod Marks
+pub mod Sending

@@ -21,7 +21,7 @@ seen-fresh m left n e f shut none =
 
 -- a screen of fresh parts
 pub fresh-parts : (w : Wires) (m : LinkMeaning) (k : Canvas) (r o : ℕ) → k ≡ fresh-canvas → r ≡ settings-for w .remap → o ≡ settings-for w .offset
-  → _≡_ {A = ScreenMeaning} (record { wiring = w; canvas = k; link = m; lit = false; remap-owed = lacks r; offset-owed = lacks o }) (fresh-screen w m)
+    → _≡_ {A = ScreenMeaning} (record { wiring = w; canvas = k; link = m; lit = false; remap-owed = lacks r; offset-owed = lacks o }) (fresh-screen w m)
 fresh-parts w m k r o e f g =
     let over : Canvas → ℕ → ℕ → ScreenMeaning = λ k r o. record { wiring = w; canvas = k; link = m; lit = false; remap-owed = lacks r; offset-owed = lacks o } in
     ap (λ x. over x r o) e ∙ ap (λ x. over fresh-canvas x o) f ∙ ap (over fresh-canvas (settings-for w .remap)) g

@@ -21,8 +21,11 @@ use marks::first_run;
 use ssd1329::Transfer;
 
 const SET_REMAP: u8 = 0xA0;
+
 const SET_OFFSET: u8 = 0xA2;
+
 const WAKE: u8 = 0xAF;
+
 const NOTHING: u8 = 0xE3;
 
 // Sends a setting if it is owed and there is the grant: whether it is owed still, and what is left of the grant.
@@ -103,9 +106,26 @@ impl<L: Link> Screen<L> {
             let _ = self.link.close();
             return Ok(0);
         }
-        let (remap, free) = send_setting(&mut self.link, self.owed.remap, SET_REMAP, self.wiring.remap(), grant);
-        let (offset, free) = send_setting(&mut self.link, self.owed.offset, SET_OFFSET, self.wiring.offset(), free);
-        let left = sweep(&mut self.link, &self.canvas.cells, &mut self.canvas.due, free);
+        let (remap, free) = send_setting(
+            &mut self.link,
+            self.owed.remap,
+            SET_REMAP,
+            self.wiring.remap(),
+            grant,
+        );
+        let (offset, free) = send_setting(
+            &mut self.link,
+            self.owed.offset,
+            SET_OFFSET,
+            self.wiring.offset(),
+            free,
+        );
+        let left = sweep(
+            &mut self.link,
+            &self.canvas.cells,
+            &mut self.canvas.due,
+            free,
+        );
         let owed = Owed { remap, offset };
         let rest = all_due(&self.canvas.due);
         let all = complete(owed, rest);

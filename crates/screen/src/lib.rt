@@ -2,6 +2,8 @@
 //
 // docs/DRAWING.md has the rules in words.
 mod answers;
+#[cfg(test)]
+mod flush_tests;
 mod flushes;
 mod screens;
 mod sends;
@@ -9,7 +11,4 @@ mod sweeps;
 #[cfg(test)]
 mod tests;
 
-pub use answers::FlushFault;
-pub use answers::LeftOver;
-pub use answers::Place;
 pub use screens::Screen;

@@ -33,7 +33,15 @@ fn height_of(due: &[u64; 128], y: u8, run: Run, most: u32) -> u8
 }
 
 // Sends the window of the m columns from a on of the h lines from y on, and the bytes that stand there.
-fn send_block<L: Link>(link: &mut L, canvas: &[u8; 8192], due: &mut [u64; 128], y: u8, a: u8, m: u8, h: u8)
+fn send_block<L: Link>(
+    link: &mut L,
+    canvas: &[u8; 8192],
+    due: &mut [u64; 128],
+    y: u8,
+    a: u8,
+    m: u8,
+    h: u8,
+)
     requires grant { ⌜ Enough (means (now link) .slot) (6 + m * h) ⌝ }
     requires shape { ⌜ Shaped (record { line = y; from = a; size = m; height = h }) ⌝ }
     requires marked { ⌜ ((k : ℕ) → k < h → Part (getD (now due) (y + k) 0) a m) ⌝ }
@@ -51,7 +59,12 @@ fn send_block<L: Link>(link: &mut L, canvas: &[u8; 8192], due: &mut [u64; 128], 
 }
 
 // Sends due bytes while the grant lasts, and keeps one transfer: what is left of the grant.
-pub(crate) fn sweep<L: Link>(link: &mut L, canvas: &[u8; 8192], due: &mut [u64; 128], grant: u32) -> u32
+pub(crate) fn sweep<L: Link>(
+    link: &mut L,
+    canvas: &[u8; 8192],
+    due: &mut [u64; 128],
+    grant: u32,
+) -> u32
     requires { ⌜ Enough (means (now link) .slot) grant ⌝ ∗ ⌜ 0 < grant ⌝ }
     ensures { λ r. ⌜ Swept (means (now (link .entry))) (now (canvas .entry)) (now (due .entry)) grant (means (now (link .exit))) (now (due .exit)) r ⌝ }
 {
@@ -62,7 +75,15 @@ pub(crate) fn sweep<L: Link>(link: &mut L, canvas: &[u8; 8192], due: &mut [u64; 
             None => y += 1,
             Some(run) => {
                 let m = run.len.min(left - 7);
-                let h = height_of(due, y, Run { start: run.start, len: m }, (left - 7) / m);
+                let h = height_of(
+                    due,
+                    y,
+                    Run {
+                        start: run.start,
+                        len: m,
+                    },
+                    (left - 7) / m,
+                );
                 send_block(link, canvas, due, y, run.start as u8, m as u8, h);
                 left -= 6 + m * h as u32;
             }

@@ -11,5 +11,5 @@ returns-else-owed g c =
     record {
       owed = still-owed (c .args .owed) (c .args .grant) (c .else-owed .either);
       sends = setting-unsent (g .L·Link .means (c .args .link .now)) (c .args .opcode) (c .args .value) (c .args .owed);
-      left = (omega arith, c .pre .1)
+      left = (omega arith, c .pre .1);
     }

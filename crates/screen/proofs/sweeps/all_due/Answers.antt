@@ -26,8 +26,7 @@ loop-y-again c =
     let inside : y < length ds = search needs in
     let more = sumBy-more due ds y 0 inside in
     let is = c .due-bytes-all .ensures in
-    let sum = c .loop-y .inv .1 in
-    (
+    let sum = c .loop-y .inv .1 in (
       omega (arith, c .loop-y .inv .0, count-most (bit (getD ds y 0)) 64),
       omega arith,
       below-more _ _ (c .loop-y .inv .2) (omega arith),

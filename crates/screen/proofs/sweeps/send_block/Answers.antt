@@ -51,7 +51,7 @@ loop-i-again g c =
     let e : from + m - from ≡ m = omega arith in
     let sends = c .send-data .ensures ∙ ap (λ j. sent-all n (map Data (take j (drop from canvas)))) e in
     blocking-more (k .means (c .send-commands .last .link)) n (k .means (c .send-data .last .link)) canvas (c .args .due .now) (c .loop-i .due) y a m i (c .cleared .result)
-      (c .loop-i .inv) sends (c .pre .shape .wide) within wide (omega arith) inside (c .pre .marked i (omega arith)) (c .cleared .ensures .within within)
+    (c .loop-i .inv) sends (c .pre .shape .wide) within wide (omega arith) inside (c .pre .marked i (omega arith)) (c .cleared .ensures .within within)
 
 pub returns : need.returns
 returns g c =
@@ -59,5 +59,5 @@ returns g c =
     let b : Block = record { line = c .args .y; from = c .args .a; size = c .args .m; height = c .args .h } in
     let wide : length (c .args .canvas .now) ≡ 8192 = search needs in
     let all = block-sent (k .means (c .args .link .now)) (k .means (c .send-commands .last .link)) (k .means (c .loop-i .link)) (c .args .canvas .now) (c .args .due .now) (c .loop-i .due) b (c .loop-i .i)
-          (c .send-commands .ensures) (c .loop-i .inv) (omega arith) in
+    (c .send-commands .ensures) (c .loop-i .inv) (omega arith) in
     record { sends = all .0; clears = all .1; long = words-length (c .args .canvas .now) b wide (c .pre .shape) }

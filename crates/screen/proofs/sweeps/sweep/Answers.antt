@@ -29,7 +29,7 @@ send-block-requires g c κs =
     record {
       grant = enough-then (k .means (c .args .link .now)) (k .means (c .loop-y .link)) (traffic (c .args .canvas .now) (inv .blocks)) (6 + m * h) (c .args .grant) (inv .sends) (c .pre .0) (omega (arith, inv .spent));
       shape = chosen-shaped vs left y a len m h chosen;
-      marked = chosen-marked vs left y a len m h chosen
+      marked = chosen-marked vs left y a len m h chosen;
     }
 
 pub sub-left-in-Some-2 : need.sub-left-in-Some-2
@@ -59,4 +59,4 @@ loop-y-again g c =
     let k = g .L·Link in
     let wide : length (c .args .canvas .now) ≡ 8192 = search needs in
     sweep-more (k .means (c .args .link .now)) (c .args .canvas .now) (c .args .due .now) (c .args .grant) (k .means (c .loop-y .link)) (k .means (c .send-block .last .link)) vs (c .send-block .last .due) left y a len m h
-      (c .loop-y .inv) chosen wide (c .send-block .ensures .clears) (c .send-block .ensures .sends)
+    (c .loop-y .inv) chosen wide (c .send-block .ensures .clears) (c .send-block .ensures .sends)

@@ -19,8 +19,8 @@ returns-then-complete g c =
     let s = shows k (c .args .self .now) in
     let whole : complete s ≡ true = sym (complete-is s (c .all-due .result) (c .complete .result) (c .complete .ensures) (c .all-due .ensures .sum)) ∙ c .if-complete .taken in
     rest-is s (k .means (c .open .last .self)) (k .means (c .close .last .self)) (c .args .n) (c .in-Ok .grant) (c .close .result)
-      (and-from (s .lit) (complete s) (c .if-self .taken) whole)
-      (c .in-Ok .ensures tt .answer) (c .in-Ok .ensures tt .after) (c .close .ensures .answer) (c .close .ensures .after)
+    (and-from (s .lit) (complete s) (c .if-self .taken) whole)
+    (c .in-Ok .ensures tt .answer) (c .in-Ok .ensures tt .after) (c .close .ensures .answer) (c .close .ensures .after)
 
 pub returns : need.returns
 returns g c =
@@ -42,18 +42,18 @@ returns g c =
     let remapped = setting-of o p0 0xA0 (c .remap .result) _ (before .owed .remap) remap _ _ (c .remap .ensures) (r0 .sends, r0 .left .0) in
     let offsets = setting-of p0 p1 0xA2 (c .offset .result) _ (before .owed .offset) offset _ _ (c .offset .ensures) (r1 .sends, r1 .left .0) in
     told-is s t o p0 p1 p q
-      (c .args .n) (c .in-Ok .grant) (c .send-setting-remap .result .1) (c .send-setting-offset .result .1) (c .sweep-left .result) (c .send .result) (c .close-2 .result)
-      (elim (c .else-self .came) [
-        else-self·by·then-self·else-complete w ↦ and-right (s .lit) (complete s) (sym (complete-is s (w .all-due .result) (w .complete .result) (w .complete .ensures) (w .all-due .ensures .sum)) ∙ w .if-complete .left)
-        | else-self·by·else-self w ↦ and-left (s .lit) (complete s) (w .if-self .left)
-      ])
-      (c .in-Ok .ensures tt .answer) (c .in-Ok .ensures tt .after)
-      (remapped .0) (remapped .1) (offsets .0) (offsets .1)
-      (c .sweep-left .ensures)
-      (c .all-due-rest .ensures .fit)
-      (c .send .ensures .answer)
-      (c .send .ensures .after ∙ ap (λ b. send-after p (Command b) (c .send .result)) (c .closing-byte-last .ensures ∙ ap (closing (s .lit)) all))
-      (c .close-2 .ensures .answer) (c .close-2 .ensures .after)
-      refl refl (c .lit-after-self .ensures ∙ ap (λ b. s .lit || b) all)
-      (c .send-setting-remap .ensures .owed) (c .send-setting-offset .ensures .owed)
-      (c .complete-all .result) (c .all-due-rest .result) (c .told .result) all rest (c .told .ensures)
+    (c .args .n) (c .in-Ok .grant) (c .send-setting-remap .result .1) (c .send-setting-offset .result .1) (c .sweep-left .result) (c .send .result) (c .close-2 .result)
+    (elim (c .else-self .came) [
+      | else-self·by·then-self·else-complete w ↦ and-right (s .lit) (complete s) (sym (complete-is s (w .all-due .result) (w .complete .result) (w .complete .ensures) (w .all-due .ensures .sum)) ∙ w .if-complete .left)
+      | else-self·by·else-self w ↦ and-left (s .lit) (complete s) (w .if-self .left)
+    ])
+    (c .in-Ok .ensures tt .answer) (c .in-Ok .ensures tt .after)
+    (remapped .0) (remapped .1) (offsets .0) (offsets .1)
+    (c .sweep-left .ensures)
+    (c .all-due-rest .ensures .fit)
+    (c .send .ensures .answer)
+    (c .send .ensures .after ∙ ap (λ b. send-after p (Command b) (c .send .result)) (c .closing-byte-last .ensures ∙ ap (closing (s .lit)) all))
+    (c .close-2 .ensures .answer) (c .close-2 .ensures .after)
+    refl refl (c .lit-after-self .ensures ∙ ap (λ b. s .lit || b) all)
+    (c .send-setting-remap .ensures .owed) (c .send-setting-offset .ensures .owed)
+    (c .complete-all .result) (c .all-due-rest .result) (c .told .result) all rest (c .told .ensures)

@@ -9,5 +9,5 @@ returns g c =
     record {
       judged = seen-fresh m (c .left .result) (c .taken .result) (c .left .ensures) (c .taken .ensures) (c .if-is-some .ensures tt) (c .if-taken-gt0 .left);
       made = fresh-parts (wires (c .args .wiring)) m (c .new .result) (c .remap .result) (c .offset .result) (c .new .ensures) (c .remap .ensures) (c .offset .ensures);
-      kept = refl
+      kept = refl;
     }

@@ -7,7 +7,7 @@ use mathlib.Core.Bool.{Bool, true, false, _&&_, _||_, not, cond}
 use native.Mathlib.Omega.{arith}
 use lib.Dec.{eqb}
 use lib.Bits.{bitOr}
-use lib.ListN.{length, getD, set}
+use lib.ListN.{length, getD, set, length-set}
 use lib.Seq.{getD-set-same, getD-set-other}
 use Rattle.std.proofs.shelf.Tests.{cases-eq, eq-eqb, ne-eqb}
 use Rattle.std.proofs.shelf.Ways.{tells}
@@ -38,7 +38,16 @@ put-is c x y g new hx hy hg lc ld small is changed = record {
   grays = λ p q hp hq. let s = getD-set-is (c .cells) (y * 64 + x / 2) (q * 64 + p / 2) new (omega arith) in rw s (grind (arith, tells));
   marks = λ q k hq hk. let s = getD-set-is (c .due) y q (bitOr (getD (c .due) y 0) (2 ^ (x / 2))) (omega arith) in let b = bit-set (getD (c .due) y 0) (x / 2) k in
       let d : eqb (half (getD (c .cells) (y * 64 + x / 2) 0) x) g ≡ false = grind (arith, tells) in rw (s, d) (marked (getD (c .due) q 0) (getD (c .due) y 0) (bitOr (getD (c .due) y 0) (2 ^ (x / 2))) k q y (x / 2) b (λ e. ap (λ n. getD (c .due) n 0) e));
+  whole = λ w. record {
+    cells = length-set (c .cells) (y * 64 + x / 2) new ∙ w .cells;
+    words = length-set (c .due) y (bitOr (getD (c .due) y 0) (2 ^ (x / 2))) ∙ w .words;
+    bytes = λ i l.
+        let s = getD-set-is (c .cells) (y * 64 + x / 2) i new (omega arith) in
+        let b = w .bytes i l in
+        let n : new < 256 = grind (arith, tells) in
+        rw s (grind (arith, tells));
+  };
 }
 
 pub put-none : (c : Canvas) (x y g : ℕ) → gray c x y ≡ g → Put c x y g c
-put-none c x y g e = record { grays = λ p q hp hq. grind (arith, tells); marks = λ q k hq hk. grind (arith, tells) }
+put-none c x y g e = record { grays = λ p q hp hq. grind (arith, tells); marks = λ q k hq hk. grind (arith, tells); whole = λ w. w }

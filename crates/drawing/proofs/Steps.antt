@@ -37,6 +37,7 @@ drawn-then c d e t u v f s j = record {
       (regroup (due c y k) (alters (t (2 * k) y) (gray c (2 * k) y)) (alters (t (2 * k + 1) y) (gray c (2 * k + 1) y)) _ _ _ _
       (join-alters (t (2 * k) y) (u (2 * k) y) (v (2 * k) y) (gray c (2 * k) y) (j (2 * k) y l hy))
       (join-alters (t (2 * k + 1) y) (u (2 * k + 1) y) (v (2 * k + 1) y) (gray c (2 * k + 1) y) (j (2 * k + 1) y r hy)));
+  whole = λ w. s .whole (f .whole w);
 }
 
 -- a paint that paints nothing
@@ -44,6 +45,7 @@ pub drawn-none : (c : Canvas) (t : Paint) → ((x y : ℕ) → x < 128 → y < 1
 drawn-none c t n = record {
   grays = λ x y hx hy. rw (n x y hx hy);
   marks = λ y k hy hk. let l : 2 * k < 128 = omega arith in let r : 2 * k + 1 < 128 = omega arith in rw (n (2 * k) y l hy, n (2 * k + 1) y r hy) (grind (arith, tells));
+  whole = λ w. w;
 }
 
 -- a paint that is the same on the canvas
@@ -52,6 +54,7 @@ drawn-like c d t u h so = record {
   grays = λ x y hx hy. rw (sym (h x y hx hy)) (so .grays x y hx hy);
   marks = λ y k hy hk. let l : 2 * k < 128 = omega arith in let r : 2 * k + 1 < 128 = omega arith in
       rw (sym (h (2 * k) y l hy), sym (h (2 * k + 1) y r hy)) (so .marks y k hy hk);
+  whole = so .whole;
 }
 
 -- the paint of one dot
@@ -62,6 +65,7 @@ drawn-put : (c d : Canvas) (a b g : ℕ) → Put c a b g d → Drawn c (spot a b
 drawn-put c d a b g h = record {
   grays = λ x y hx hy. h .grays x y hx hy ∙ grind (arith, tells);
   marks = λ y k hy hk. h .marks y k hy hk ∙ grind (arith, tells);
+  whole = h .whole;
 }
 
 -- one more dot of a line

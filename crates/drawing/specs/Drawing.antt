@@ -13,7 +13,7 @@ use Rattle.picture.specs.Pictures.{PictureMeaning}
 use Rattle.picture.specs.Parts.{seen}
 use Rattle.drawing.specs.declared.canvas.Canvas.{Canvas}
 use Rattle.drawing.specs.Clips.{Area, Side, holds, inside, covers, position-refusal, rectangle-refusal}
-use Rattle.drawing.specs.Dots.{gray, due}
+use Rattle.drawing.specs.Dots.{gray, due, Whole}
 use Rattle.drawing.specs.Pens.{PenMeaning}
 
 -- A paint says for each dot which gray it gets, or None: it keeps the gray that it has.
@@ -35,6 +35,7 @@ pub record Drawn (before : Canvas) (paint : Paint) (after : Canvas) : Type 0 whe
   pub grays : (x y : ℕ) → x < 128 → y < 128 → gray after x y ≡ over (paint x y) (gray before x y)
   pub marks : (y k : ℕ) → y < 128 → k < 64
       → due after y k ≡ (due before y k || (alters (paint (2 * k) y) (gray before (2 * k) y) || alters (paint (2 * k + 1) y) (gray before (2 * k + 1) y)))
+  pub whole : Whole before → Whole after
 
 -- a paint in an area alone
 abbrev pub clipped : Paint → Area → Paint

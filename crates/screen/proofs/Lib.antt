@@ -1,4 +1,11 @@
-pub mod Fresh
-pub mod Settings
+pub mod Draws
+pub mod Faith
 pub mod Flush
+pub mod SoundFlush
+pub mod Fresh
+pub mod Keeps
 pub mod Rest
+pub mod Sent
+pub mod Settings
+pub mod Sound
+pub mod Starts

@@ -125,7 +125,7 @@ shown-at w x y = glass (w .screen .wiring) (w .screen .link .chip) x y
 -- a flush that follows, with B bytes due in R runs before it: worth is B + 6 × R
 pub record Paid (es : List Event) (s : ScreenMeaning) (n : ℕ) (t : ScreenMeaning) (f : Flushed s n t) : Type 0 where
   -- with a grant of 20 or more it is done, or fewer bytes are due
-  pub moves : 20 ≤ f .grant → (t .lit ≡ true) × (bytes-due (t .canvas .due) ≡ 0) ⊎ (bytes-due (t .canvas .due) < bytes-due (s .canvas .due))
+  pub moves : 20 ≤ f .grant → ((t .lit ≡ true) × (bytes-due (t .canvas .due) ≡ 0)) ⊎ (bytes-due (t .canvas .due) < bytes-due (s .canvas .due))
   -- once some flush was done, it takes at most B + 6 × R + 3 transfers, and a grant of as many brings done
   pub most : ever-done es ≡ true → length (sending s (f .blocks) t) ≤ worth (s .canvas .due) + 3
   pub brings : ever-done es ≡ true → worth (s .canvas .due) + 3 ≤ f .grant → (t .lit ≡ true) × (bytes-due (t .canvas .due) ≡ 0)

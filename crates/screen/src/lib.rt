@@ -5,10 +5,12 @@ mod answers;
 #[cfg(test)]
 mod flush_tests;
 mod flushes;
+mod lives;
 mod screens;
 mod sends;
 mod sweeps;
 #[cfg(test)]
 mod tests;
 
+pub use lives::every_life_is_faithful;
 pub use screens::Screen;

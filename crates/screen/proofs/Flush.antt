@@ -17,7 +17,7 @@ use Rattle.ssd1329.specs.Wiring.{settings-for}
 use Rattle.link.specs.Links.{LinkMeaning, open-answer, open-after, send-answer, send-after, close-answer, Close-after}
 use Rattle.marks.specs.Blocks.{traffic, bytes-due, worth}
 use Rattle.marks.specs.Sending.{Enough, Session, sent-all, Sweeping, Swept}
-use Rattle.marks.proofs.Over.{swept-over, swept-moves, swept-most, swept-all}
+use Rattle.marks.proofs.Over.{swept-over, swept-moves, swept-most, swept-all, swept-count, swept-blocks}
 use Rattle.marks.proofs.Sends.{sent-then, one-sent, enough-then}
 use Rattle.marks.proofs.Sessions.{session}
 use Rattle.screen.specs.declared.answers.FlushFault.{FlushFault}
@@ -33,6 +33,7 @@ module _ (s t : ScreenMeaning) (o p0 p1 p q : LinkMeaning) (n grant free rest le
     (offsets : p1 ≡ sent-all p0 (offset-sent s t)) (offset-left : rest + length (offset-sent s t) ≡ free)
     (w : Swept p1 (s .canvas .cells) (s .canvas .due) rest p (t .canvas .due) left)
     (fits : (k : ℕ) → k < length (t .canvas .due) → getD (t .canvas .due) k 0 < 2 ^ 64)
+    (wide : length (s .canvas .cells) ≡ 8192)
     (sent : sr ≡ send-answer (p .slot)) (sends : q ≡ send-after p (Command (closing (s .lit) (complete t))) sr)
     (shut : cr ≡ close-answer (q .slot)) (shuts : Close-after q cr (t .link))
     (cells : t .canvas .cells ≡ s .canvas .cells) (wiring : t .wiring ≡ s .wiring) (lit : t .lit ≡ (s .lit || complete t))
@@ -128,6 +129,8 @@ module _ (s t : ScreenMeaning) (o p0 p1 p q : LinkMeaning) (n grant free rest le
     offset-owed = let e : free ≡ grant - length rs = omega (arith, remap-left) in offset-owed ∙ ap (λ k. s .offset-owed && ltb k 3) e;
     most = omega (arith, long, few-rs, few-os, swept-most p1 (s .canvas .cells) (s .canvas .due) rest p (t .canvas .due) left w);
     all = all;
+    by-blocks = omega (arith, long, few-rs, few-os, swept-count p1 (s .canvas .cells) (s .canvas .due) rest p (t .canvas .due) left w wide);
+    few-blocks = swept-blocks p1 (s .canvas .cells) (s .canvas .due) rest p (t .canvas .due) left w fits wide;
     full = ⊎-elim (λ z. inl z) (λ (l : left < 8). inr (omega (arith, long, remap-left, offset-left, h .spent))) (swept-over p1 (s .canvas .cells) (s .canvas .due) rest p (t .canvas .due) left w);
     moves = moves;
   }

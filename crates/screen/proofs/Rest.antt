@@ -75,6 +75,8 @@ module _ (s : ScreenMeaning) (o l : LinkMeaning) (n grant : ℕ) (cr : Result (U
       offset-owed = not-owed (s .offset-owed) _ offset-sent-before;
       most = omega (arith, short);
       all = λ g. whole;
+      by-blocks = omega (arith, short);
+      few-blocks = omega arith;
       full = inl none-due;
       moves = λ g. inl whole;
     };

@@ -3,7 +3,7 @@ use mathlib.Core.Path.{_≡_}
 use mathlib.Core.Bool.{Bool, true, false, cond, not, _&&_, _||_}
 use mathlib.Core.Logic.{_⊎_}
 use mathlib.Core.List.{List, [], _∷_, _++_}
-use Prim.Native.Nat.{ℕ, _+_, _-_, _≤_, _<_}
+use Prim.Native.Nat.{ℕ, _+_, _-_, _*_, _≤_, _<_}
 use lib.Dec.{eqb, ltb}
 use lib.ListN.{length, getD}
 use Rattle.std.specs.declared.option.Option.{Option}
@@ -15,7 +15,7 @@ use Rattle.ssd1329.specs.declared.transfer.Transfer.the-variants.{Command}
 use Rattle.ssd1329.specs.Wiring.{settings-for}
 use Rattle.link.specs.Links.{open-answer}
 use Rattle.marks.specs.Marks.{bit}
-use Rattle.marks.specs.Blocks.{Block, traffic, Covers, bytes-due, worth}
+use Rattle.marks.specs.Blocks.{Block, traffic, Covers, bytes-due, runs-due, worth}
 use Rattle.marks.specs.Sending.{Session}
 use Rattle.screen.specs.declared.answers.Place.{Place}
 use Rattle.screen.specs.declared.answers.LeftOver.{LeftOver}
@@ -66,6 +66,9 @@ pub record Flushed (s : ScreenMeaning) (n : ℕ) (t : ScreenMeaning) : Type 0 wh
   -- at most the settings, a transfer for each due byte, six for each run, and the closing one; where the grant has as many, all is sent
   pub most : length (sending s blocks t) ≤ owing s + worth (s .canvas .due) + 1
   pub all : owing s + worth (s .canvas .due) + 1 ≤ grant → complete t ≡ true
+  -- counted by blocks, of which there are no more than runs
+  pub by-blocks : length (sending s blocks t) ≤ owing s + bytes-due (s .canvas .due) + 6 * length blocks + 1
+  pub few-blocks : length blocks ≤ runs-due (s .canvas .due)
   -- it stops only where no byte is due, or where no window with a byte fits beside the closing command
   pub full : (bytes-due (t .canvas .due) ≡ 0) ⊎ (grant < length (sending s blocks t) + 7)
   pub moves : 12 ≤ grant → (complete t ≡ true) ⊎ (bytes-due (t .canvas .due) < bytes-due (s .canvas .due))

@@ -66,7 +66,8 @@ pub(crate) fn sweep<L: Link>(
     grant: u32,
 ) -> u32
     requires { ⌜ Enough (means (now link) .slot) grant ⌝ ∗ ⌜ 0 < grant ⌝ }
-    ensures { λ r. ⌜ Swept (means (now (link .entry))) (now (canvas .entry)) (now (due .entry)) grant (means (now (link .exit))) (now (due .exit)) r ⌝ }
+    ensures swept { λ r. ⌜ Swept (means (now (link .entry))) (now (canvas .entry)) (now (due .entry)) grant (means (now (link .exit))) (now (due .exit)) r ⌝ }
+    ensures wide { λ _. ⌜ length (now (canvas .entry)) ≡ 8192 ⌝ }
 {
     let mut left = grant;
     let mut y = 0u8;

@@ -23,6 +23,10 @@ pub record Block : Type 0 where
   pub size : ℕ
   pub height : ℕ
 
+-- the block of m columns from a on, of the h lines from y on
+abbrev pub block : ℕ → ℕ → ℕ → ℕ → Block
+block y a m h = record { line = y; from = a; size = m; height = h }
+
 -- a block has a byte, and is all on the canvas
 pub record Shaped (b : Block) : Type 0 where
   pub high : 0 < b .height

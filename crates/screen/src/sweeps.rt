@@ -4,7 +4,7 @@ ghost use mathlib.Core.Path.{_≡_};
 ghost use Prim.Native.Nat.{ℕ, _+_, _-_, _*_, _^_, _<_, _≤_};
 ghost use lib.ListN.{length, getD};
 ghost use Rattle.marks.specs.Marks.{First};
-ghost use Rattle.marks.specs.Blocks.{lines-of, words, bytes-due, Shaped, Part, Clears};
+ghost use Rattle.marks.specs.Blocks.{block, lines-of, words, bytes-due, Shaped, Part, Clears};
 ghost use Rattle.marks.specs.Sending.{Enough, sent-all, Swept};
 use crate::sends::send_commands;
 use crate::sends::send_data;
@@ -43,11 +43,11 @@ fn send_block<L: Link>(
     h: u8,
 )
     requires grant { ⌜ Enough (means (now link) .slot) (6 + m * h) ⌝ }
-    requires shape { ⌜ Shaped (record { line = y; from = a; size = m; height = h }) ⌝ }
+    requires shape { ⌜ Shaped (block y a m h) ⌝ }
     requires marked { ⌜ ((k : ℕ) → k < h → Part (getD (now due) (y + k) 0) a m) ⌝ }
-    ensures sends { λ _. ⌜ means (now (link .exit)) ≡ sent-all (means (now (link .entry))) (words (now (canvas .entry)) (record { line = y; from = a; size = m; height = h })) ⌝ }
+    ensures sends { λ _. ⌜ means (now (link .exit)) ≡ sent-all (means (now (link .entry))) (words (now (canvas .entry)) (block y a m h)) ⌝ }
     ensures clears { λ _. ⌜ Clears (now (due .entry)) (lines-of y a m h) (now (due .exit)) ⌝ }
-    ensures long { λ _. ⌜ length (words (now (canvas .entry)) (record { line = y; from = a; size = m; height = h })) ≡ 6 + m * h ⌝ }
+    ensures long { λ _. ⌜ length (words (now (canvas .entry)) (block y a m h)) ≡ 6 + m * h ⌝ }
 {
     send_commands(link, &[0x15, a, a + m - 1, 0x75, y, y + h - 1]);
     for i in 0..h {

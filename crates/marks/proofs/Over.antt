@@ -1,24 +1,18 @@
--- What a sweep that is over has come to, and the slot that it was in.
+-- What a sweep that is over has come to.
 use mathlib.Core.Path.{_≡_, refl}
 use mathlib.Core.Logic.{_⊎_, inl, inr, ⊎-elim}
-use mathlib.Core.List.{List, [], _∷_, _++_}
+use mathlib.Core.List.{List, [], _∷_}
 use Prim.Native.Nat.{ℕ, _+_, _*_, _^_, _≤_, _<_}
 use native.Mathlib.Omega.{arith}
-use lib.ListN.{length, getD, length-append}
+use lib.ListN.{length, getD}
 use Rattle.std.specs.shelf.Lists.{sumBy}
 use Rattle.std.proofs.shelf.Sums.{sumBy-cons, getD-le-sumBy}
 use Rattle.std.proofs.shelf.Tests.{cases-lt}
-use Rattle.std.specs.declared.result.Result.{Result}
-use Rattle.std.specs.declared.result.Result.the-variants.{Ok}
-use Rattle.refusal.specs.declared.refusals.Refusal.{Refusal}
-use Rattle.ssd1329.specs.declared.transfer.Transfer.{Transfer}
-use Rattle.link.specs.Links.{LinkMeaning, open-answer, open-after, close-answer, Close-after}
+use Rattle.link.specs.Links.{LinkMeaning}
 use Rattle.marks.specs.Marks.{due, runs}
 use Rattle.marks.specs.Blocks.{traffic, bytes-due, runs-due, cost, worth}
-use Rattle.marks.specs.Sending.{Enough, sent-all, Swept, Session}
+use Rattle.marks.specs.Sending.{Swept}
 use Rattle.marks.proofs.Accounts.{traffic-length}
-use Rattle.marks.proofs.Sends.{sent-then, enough-then}
-use Rattle.marks.proofs.Sessions.{session}
 use Rattle.marks.proofs.Some.{some-due}
 use Rattle.marks.proofs.Zero.{none-due, cheap}
 
@@ -42,10 +36,6 @@ no-runs ws fits z = none-due ws (λ k l.
 module _ (m : LinkMeaning) (canvas ws : List ℕ) (grant : ℕ) (n : LinkMeaning) (vs : List ℕ) (left : ℕ) (w : Swept m canvas ws grant n vs left) where
   abbrev sent : ℕ
   sent = length (traffic canvas (w .sweeping .blocks))
-
-  -- the slot still has what is left
-  pub swept-left : Enough (m .slot) grant → Enough (n .slot) left
-  swept-left e = enough-then m n (traffic canvas (w .sweeping .blocks)) left grant (w .sweeping .sends) e (omega (arith, w .sweeping .spent))
 
   -- it stops only where no byte is due, or where no window with a byte fits
   pub swept-over : (bytes-due vs ≡ 0) ⊎ (left < 8)
@@ -87,21 +77,3 @@ module _ (m : LinkMeaning) (canvas ws : List ℕ) (grant : ℕ) (n : LinkMeaning
       (λ (p : runs-due vs ≤ 0). absurd (omega (arith, b .2, worth-is vs, no-runs vs fits (omega arith))))
       (cases-lt 0 (runs-due vs)))
       (w .sweeping .pays)
-
--- The whole slot: what is owed first, the blocks, and what closes it.
-module _ (m o p n q t : LinkMeaning) (asked grant free left : ℕ) (owed last : List Transfer) (canvas ws vs : List ℕ) (r : Result (Unit {0}) Refusal)
-    (answer : Ok grant ≡ open-answer m asked) (opens : o ≡ open-after m (Ok grant)) (owes : p ≡ sent-all o owed) (frees : free + length owed ≡ grant)
-    (w : Swept p canvas ws free n vs left) (ends : q ≡ sent-all n last) (short : length last ≤ left)
-    (shut : r ≡ close-answer (q .slot)) (shuts : Close-after q r t) where
-  abbrev blocks : List Transfer
-  blocks = traffic canvas (w .sweeping .blocks)
-
-  -- how many transfers that were
-  pub slot-count : length (owed ++ (blocks ++ last)) + left ≡ grant + length last
-  slot-count = omega (arith, length-append owed (blocks ++ last), length-append blocks last, frees, w .sweeping .spent)
-
-  -- one list after the other
-  pub slot-session : Session m asked grant (owed ++ (blocks ++ last)) t
-  slot-session =
-      let rest = sent-then p n q blocks last (w .sweeping .sends) ends in
-      session m o q t asked grant (owed ++ (blocks ++ last)) r answer opens (omega (arith, slot-count)) (sent-then o p q owed (blocks ++ last) owes rest) shut shuts

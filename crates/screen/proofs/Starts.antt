@@ -18,6 +18,7 @@ use Rattle.drawing.specs.Dots.{gray, due, Whole, fresh-canvas}
 use Rattle.link.specs.Links.{LinkMeaning, Lawful}
 use Rattle.marks.specs.Marks.{bit}
 use Rattle.marks.specs.Landing.{Idle}
+use Rattle.marks.proofs.Model.{reset-idles}
 use Rattle.marks.proofs.Digits.{bit-full}
 use Rattle.screen.specs.Screens.{is-shut, fresh-link, lacks, fresh-screen}
 use Rattle.screen.proofs.Sound.{lacking, Sound}
@@ -47,11 +48,7 @@ closed-slot : (o : Option ℕ) → is-shut o ≡ true → o ≡ None
 closed-slot None e = refl
 closed-slot (Some left) e = absurd (both-ways false refl e)
 
--- a controller at reset is idle, with the settings of reset, and asleep
-reset-idle : (m : List ℕ) → length m ≡ 8192 → Idle (reset m)
-unfolding reset
-reset-idle m e = record { whole = e; idles = refl; true-to = refl; free = refl }
-
+-- a controller at reset has the settings of reset, and is asleep
 reset-settings : (m : List ℕ) → reset m .settings ≡ at-reset
 unfolding reset
 reset-settings m = refl
@@ -77,7 +74,7 @@ starts-sound w m low laws fresh =
     let e : m .chip ≡ reset (m .chip .memory) = laws .fresh (eqb-true (m .taken) 0 (p .1)) in
     record {
       shut = closed-slot (m .slot) (p .0);
-      idle = subst (λ (c : Chip). Idle c) (sym e) (reset-idle (m .chip .memory) (laws .sized));
+      idle = subst (λ (c : Chip). Idle c) (sym e) (reset-idles (m .chip .memory) (laws .sized));
       shift = low;
       whole = fresh-whole;
       settings = ap (λ (c : Chip). c .settings) e ∙ reset-settings (m .chip .memory) ∙ lacks-all w;

@@ -2,6 +2,8 @@
 //
 // The script comes on standard input; the argument says what is wanted of it: answers (also with no argument),
 // listing, glass or picture.
+#![tactic(auto)]
+
 use anyhow::anyhow;
 use runner::{Wanted, bench};
 use std::env;

@@ -2,6 +2,8 @@
 //
 // data/ has listings (NNN.lst) with what the viewer should print (NNN.out), and lives (lNNN.scr, scripts for the
 // bench) with their answers (lNNN.ans) and their glass (lNNN.gls), all made by another model of the rules.
+#![tactic(auto)]
+
 mod edges;
 mod files;
 mod tally;

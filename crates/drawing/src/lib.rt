@@ -1,6 +1,8 @@
 // Drawing: a pen with its ink and clip, narrowed drawings, and a canvas that knows which of its bytes are due.
 //
 // docs/DRAWING.md has the rules in words, specs/ as definitions.
+#![tactic(auto)]
+
 mod calls;
 mod canvas;
 mod clip;

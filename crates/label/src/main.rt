@@ -1,4 +1,6 @@
 // Draws a label, and prints the part of the drawing that has it: a hexadecimal digit a dot, a point for gray 0.
+#![tactic(auto)]
+
 use anyhow::anyhow;
 use drawing::{Pen, Rectangle};
 use link::ListingLink;

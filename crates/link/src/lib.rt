@@ -1,6 +1,8 @@
 // Links: one interface to a controller, with the bench panel and the listing link behind it.
 //
 // docs/LINKS.md says what a link is, and how to write one of your own.
+#![tactic(auto)]
+
 mod laws;
 mod links;
 mod panel;

@@ -1,6 +1,8 @@
 // Listings: the text of what went over a wire, a record to a line.
 //
 // docs/LISTING.md has the format in words, specs/Listing.antt as a definition.
+#![tactic(auto)]
+
 mod laws;
 mod lines;
 mod reader;

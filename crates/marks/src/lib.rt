@@ -1,6 +1,8 @@
 // Due marks: a word for each line of a canvas, with a mark for each byte that is still to be sent.
 //
 // specs/Blocks.antt says what is sent for due bytes, specs/Landing.antt what that does to a controller.
+#![tactic(auto)]
+
 mod laws;
 mod run;
 #[cfg(test)]

@@ -1,6 +1,8 @@
 // Pictures: what can be placed on a screen.
 //
 // A picture is known by its meaning alone, a width, a height and a dot for each place (docs/PICTURES.md).
+#![tactic(auto)]
+
 mod bytes;
 mod kinds;
 mod laws;

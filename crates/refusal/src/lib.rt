@@ -2,6 +2,8 @@
 //
 // The list is closed. Each case has a number of its own (docs/REFUSALS.md), and the number is
 // written once, in specs/Numbers.antt. A refusal leaves everything as it was.
+#![tactic(auto)]
+
 mod bad_listing;
 mod refusals;
 mod told;

@@ -1,6 +1,8 @@
 // Runs a script on a fresh screen over a listing link, and writes what is asked of it.
 //
 // docs/SCRIPTS.md has scripts and what is written in words.
+#![tactic(auto)]
+
 mod plans;
 mod prints;
 mod runs;

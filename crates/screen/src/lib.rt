@@ -1,6 +1,8 @@
 // A screen: a canvas over a link of its own, for a module of some wiring.
 //
 // docs/DRAWING.md and docs/SCREEN.md have the rules in words. The promise of a screen is `every_life_is_faithful`.
+#![tactic(auto)]
+
 mod answers;
 mod faults;
 mod first;

@@ -1,6 +1,8 @@
 // Scripts: calls of a screen that are written down, a call to a line.
 //
 // docs/SCRIPTS.md has the format in words, specs/ as definitions.
+#![tactic(auto)]
+
 mod ahead;
 mod cuts;
 mod fault;

@@ -1,6 +1,8 @@
 // An SSD1329 display controller with its memory, the wiring of a glass to it, and what the glass shows.
 //
 // docs/CONTROLLER.md and docs/GLASS.md have the rules in words, specs/ has them as definitions.
+#![tactic(auto)]
+
 mod commands;
 mod controller;
 mod laws;

@@ -1,5 +1,7 @@
 // What everyday drawings cost: the transfers of a flush over a listing link, beside those of one box around all
 // changes and of a whole frame.
+#![tactic(auto)]
+
 use anyhow::anyhow;
 use drawing::Pen;
 use link::ListingLink;

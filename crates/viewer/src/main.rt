@@ -1,4 +1,6 @@
 // Shows what a listing on standard input leaves on the glass.
+#![tactic(auto)]
+
 use anyhow::anyhow;
 use listing::view;
 use ssd1329::{Controller, Wiring};

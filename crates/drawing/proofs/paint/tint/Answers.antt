@@ -4,13 +4,13 @@ use Rattle.drawing.specs.Drawing.{placed}
 use Rattle.drawing.proofs.Outside.{seen_answer, seen_refusal, seen_shade, placed_at}
 use Rattle.drawing.proofs.paint.tint.Goals as goal
 
-pub returns-in-default : goal.returns-in-default
+pub returns-in_default : goal.returns-in_default
 unfolding placed
-returns-in-default g c = search rules
+returns-in_default g c = search rules
 
-pub returns-in-default-offset : goal.returns-in-default-offset
+pub returns-in_default-offset : goal.returns-in_default-offset
 unfolding placed
-returns-in-default-offset g c = search rules
+returns-in_default-offset g c = search rules
 
 pub returns-in-Ok : goal.returns-in-Ok
 returns-in-Ok g c =

@@ -35,5 +35,5 @@ returns-in-Ok-None c =
 -- the text was checked
 pub returns-in-Err : goal.returns-in-Err
 returns-in-Err c =
-    absurd (never_refused c.args.text.now c.in-Err.bad.place c.in-ok-check.ensures
+    absurd (never_refused c.args.text.now c.in-Err.bad.place c.in_ok-check.ensures
     (subst (λ s. RefusedAt s c.in-Err.bad.place) c.loop-r.invariant.0 c.in-Err.ensures.read.0))

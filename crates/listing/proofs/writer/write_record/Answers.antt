@@ -13,7 +13,7 @@ returns c =
       lawful = search rules;
       room = omega arith;
       put = record {
-        text = put_written c.args.out.now c.copy-from-slice.new.self (line r) at (at + n - at) (search rules) (omega (arith, line_long r));
+        text = put_written c.args.out.now c.copy_from_slice.new.self (line r) at (at + n - at) (search rules) (omega (arith, line_long r));
         ends = omega (arith, line_long r);
       };
     }

@@ -3,5 +3,5 @@ use Rattle.std.proofs.Common.{arith}
 use Rattle.picture.proofs.Fields.{front_fits}
 use Rattle.picture.proofs.packed.field.Goals as goal
 
-pub overflow-sub-result : goal.overflow-sub-result
-overflow-sub-result c = front_fits c.args.depth c.args.place (omega arith) (omega arith) (omega arith)
+pub overflow_sub-result : goal.overflow_sub-result
+overflow_sub-result c = front_fits c.args.depth c.args.place (omega arith) (omega arith) (omega arith)

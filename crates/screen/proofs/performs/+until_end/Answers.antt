@@ -33,8 +33,8 @@ loop-done-preserved-in-Some g t c =
       omega arith,
     )
 
-pub returns-in-default-call : goal.returns-in-default-call
-returns-in-default-call g t c =
+pub returns-in_default-call : goal.returns-in_default-call
+returns-in_default-call g t c =
     let k = g.row.P-Picture in
     let script = c.args.script.now in
     let i = c.loop-done.done in
@@ -43,8 +43,8 @@ returns-in-default-call g t c =
       within = c.loop-done.invariant.0;
       ran = λ stack.
           subst (λ (v : World). Reached k (world g.L.Link c.args.screen.now c.args.pen.now stack) script (vec_items c.args.answers.now) (vec_items c.loop-done.answers) v i)
-          (sym (c.in-default.ensures stack).1) (c.loop-done.invariant.1 stack);
-      stops = λ h. get_or_default script i End call h ∙ sym c.index-script-done.is ∙ only_end call (c.in-default.ensures []).0 c.in-default-call.not-Narrow;
+          (sym (c.in_default.ensures stack).1) (c.loop-done.invariant.1 stack);
+      stops = λ h. get_or_default script i End call h ∙ sym c.index-script-done.is ∙ only_end call (c.in_default.ensures []).0 c.in_default-call.not-Narrow;
       room = c.loop-done.invariant.2;
     }
 
@@ -62,7 +62,7 @@ loop-done-preserved-in-Err g t c =
     let fy : SFits w32 n.y = search rules in (
       omega arith,
       (λ stack.
-          let so = so_far k _ _ script _ _ i _ (c.loop-done.invariant.1 stack) h (c.in-default.ensures stack).1 in
+          let so = so_far k _ _ script _ _ i _ (c.loop-done.invariant.1 stack) h (c.in_default.ensures stack).1 in
           reached k _ _ script _ _ (i + 1)
           (ran_more k _ _ script _ _ i so _ (vec_items c.note-in-Err.new.answers) c.index-script-done.result (made (narrowed_to n.x n.y n.w n.h (Err c.in-Err.refusal))) h
           c.index-script-done.is (sym (ap (meant k) n.is)) c.note-in-Err.ensures.items
@@ -77,21 +77,21 @@ loop-done-preserved g t c =
     let l = g.L.Link in
     let script = c.args.script.now in
     let i = c.loop-done.done in
-    let j = c.until-end-done.result in
+    let j = c.until_end-done.result in
     let h : i < length script = c.loop-done-test.true in
     let n = c.in-Narrow in
     let fx : SFits w32 n.x = search rules in
     let fy : SFits w32 n.y = search rules in
     let boxed = simp to_z-of_z at c.in-Ok.ensures in
-    let room = c.until-end-done.ensures.room in
-    let within = c.until-end-done.ensures.within in
+    let room = c.until_end-done.ensures.room in
+    let within = c.until_end-done.ensures.within in
     let rest = length-between script (i + 1) (length script) (omega arith) in (
       omega arith,
       (λ stack.
-          narrowed_over l k script stack _ _ c.single.new.screen c.until-end-done.new.screen c.single.new.pen c.narrow-narrowed.result.pen.now c.until-end-done.new.pen _ _ _ _ i j
-          c.index-script-done.result n.x n.y n.w n.h _ (c.loop-done.invariant.1 stack) h (c.in-default.ensures stack).1 c.index-script-done.is n.is c.note-in-Ok.ensures.items
-          boxed.0 boxed.1 c.narrow-narrowed.ensures.narrows (c.until-end-done.ensures.ran (pen_means c.single.new.pen ∷ stack))
+          narrowed_over l k script stack _ _ c.single.new.screen c.until_end-done.new.screen c.single.new.pen c.narrow-narrowed.result.pen.now c.until_end-done.new.pen _ _ _ _ i j
+          c.index-script-done.result n.x n.y n.w n.h _ (c.loop-done.invariant.1 stack) h (c.in_default.ensures stack).1 c.index-script-done.is n.is c.note-in-Ok.ensures.items
+          boxed.0 boxed.1 c.narrow-narrowed.ensures.narrows (c.until_end-done.ensures.ran (pen_means c.single.new.pen ∷ stack))
           _ (let f = c.end.ensures.former in let o = c.narrow-narrowed.ensures.was in let q = c.narrow-narrowed.ensures.same in search rules)
-          c.note-end-done.result (vec_items c.note-end-done.new.answers) c.until-end-done.ensures.stops c.note-end-done.ensures.noted),
+          c.note_end-done.result (vec_items c.note_end-done.new.answers) c.until_end-done.ensures.stops c.note_end-done.ensures.noted),
       omega arith,
     )

@@ -3,8 +3,8 @@ use Rattle.drawing.specs.Pens.{PenMeaning}
 use Rattle.screen.specs.Scripts.{world, Reached}
 use Rattle.screen.proofs.performs.+until_end.Given as goal
 
-abbrev pub decreases-until-end : goal.decreases-until-end
-decreases-until-end g l = length l.script.now
+abbrev pub decreases-until_end : goal.decreases-until_end
+decreases-until_end g l = length l.script.now
 
 abbrev pub invariant-loop-done : goal.invariant-loop-done
 invariant-loop-done g l =

@@ -14,7 +14,7 @@ loop-b-preserved g c =
     let k = g.L.Link in
     let i = c.loop-b.b-index in
     let bs = c.args.bytes.now in
-    let to = as_transfer c.args.as-data in
+    let to = as_transfer c.args.as_data in
     let m = k.means c.args.link.now in
     let h : i < length bs = c.loop-b-test.true in
     let long : length (map to (take i bs)) + 1 ≤ length bs = simp (length-map, length-take) (omega arith) in
@@ -25,4 +25,4 @@ loop-b-preserved g c =
 pub returns : goal.returns
 returns g c =
     let k = g.L.Link in
-    c.loop-b.invariant.1 ∙ ap (λ bs. sent_all (k.means c.args.link.now) (map (as_transfer c.args.as-data) bs)) (take_all _ _ c.loop-b-test.false)
+    c.loop-b.invariant.1 ∙ ap (λ bs. sent_all (k.means c.args.link.now) (map (as_transfer c.args.as_data) bs)) (take_all _ _ c.loop-b-test.false)

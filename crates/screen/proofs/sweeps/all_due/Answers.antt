@@ -10,8 +10,8 @@ pub loop-y-init : goal.loop-y-init
 unfolding bytes_due
 loop-y-init c = (omega arith, refl, λ k l. absurd (omega arith))
 
-pub overflow-add-all : goal.overflow-add-all
-overflow-add-all c = omega (arith, c.loop-y.invariant.0, c.due-bytes-all.ensures, count_most (bit (get_or c.args.due.now c.loop-y.y 0)) 64)
+pub overflow_add-all : goal.overflow_add-all
+overflow_add-all c = omega (arith, c.loop-y.invariant.0, c.due_bytes-all.ensures, count_most (bit (get_or c.args.due.now c.loop-y.y 0)) 64)
 
 pub loop-y-preserved : goal.loop-y-preserved
 unfolding bytes_due
@@ -20,7 +20,7 @@ loop-y-preserved c =
     let y = c.loop-y.y in
     let inside : y < length ds = search rules in
     let more = sum_by_more due ds y 0 inside in
-    let is = c.due-bytes-all.ensures in
+    let is = c.due_bytes-all.ensures in
     let sum = c.loop-y.invariant.1 in (
       omega (arith, c.loop-y.invariant.0, count_most (bit (get_or ds y 0)) 64),
       omega arith,

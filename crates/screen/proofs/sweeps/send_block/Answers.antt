@@ -8,8 +8,8 @@ use Rattle.marks.proofs.Sends.{enough_then}
 use Rattle.marks.proofs.Sweep.{line_fits, blocking_none, blocking_more, block_sent}
 use Rattle.screen.proofs.sweeps.send_block.Goals as goal
 
-pub send-data-requires : goal.send-data-requires
-send-data-requires g c =
+pub send_data-requires : goal.send_data-requires
+send_data-requires g c =
     let k = g.L.Link in
     let y = c.args.y in
     let i = c.loop-i.i in
@@ -21,13 +21,13 @@ send-data-requires g c =
     let within = c.requires.shape.within in
     let below = c.requires.shape.below in
     let long : length (take (from + m - from) (drop from c.args.canvas.now)) ≡ m = simp (length-take, length-drop) (omega arith) in
-    let o = k.means c.send-commands.new.link in
+    let o = k.means c.send_commands.new.link in
     let b : Block = record { line = y; from = a; size = m; height = h } in
-    let enough : Enough o.slot (m * h) = enough_then (k.means c.args.link.now) o (window b) (m * h) (6 + m * h) c.send-commands.ensures c.requires.grant (omega arith) in
+    let enough : Enough o.slot (m * h) = enough_then (k.means c.args.link.now) o (window b) (m * h) (6 + m * h) c.send_commands.ensures c.requires.grant (omega arith) in
     rw long (line_fits o (k.means c.loop-i.link) c.args.canvas.now c.args.due.now c.loop-i.due y a m i h c.loop-i.invariant enough (omega arith))
 
 pub loop-i-init : goal.loop-i-init
-loop-i-init g c = blocking_none (g.L.Link.means c.send-commands.new.link) c.args.canvas.now c.args.due.now c.args.y c.args.a c.args.m
+loop-i-init g c = blocking_none (g.L.Link.means c.send_commands.new.link) c.args.canvas.now c.args.due.now c.args.y c.args.a c.args.m
 
 pub loop-i-preserved : goal.loop-i-preserved
 loop-i-preserved g c =
@@ -44,8 +44,8 @@ loop-i-preserved g c =
     let within = c.requires.shape.within in
     let n = k.means c.loop-i.link in
     let e : from + m - from ≡ m = omega arith in
-    let sends = c.send-data.ensures ∙ ap (λ j. sent_all n (map Data (take j (drop from canvas)))) e in
-    blocking_more (k.means c.send-commands.new.link) n (k.means c.send-data.new.link) canvas c.args.due.now c.loop-i.due y a m i c.cleared.result
+    let sends = c.send_data.ensures ∙ ap (λ j. sent_all n (map Data (take j (drop from canvas)))) e in
+    blocking_more (k.means c.send_commands.new.link) n (k.means c.send_data.new.link) canvas c.args.due.now c.loop-i.due y a m i c.cleared.result
     c.loop-i.invariant sends c.requires.shape.wide within wide (omega arith) inside (c.requires.marked i (omega arith)) (c.cleared.ensures.within within)
 
 pub returns : goal.returns
@@ -53,6 +53,6 @@ returns g c =
     let k = g.L.Link in
     let b : Block = record { line = c.args.y; from = c.args.a; size = c.args.m; height = c.args.h } in
     let wide : length c.args.canvas.now ≡ 8192 = search rules in
-    let all = block_sent (k.means c.args.link.now) (k.means c.send-commands.new.link) (k.means c.loop-i.link) c.args.canvas.now c.args.due.now c.loop-i.due b c.loop-i.i
-    c.send-commands.ensures c.loop-i.invariant (omega arith) in
+    let all = block_sent (k.means c.args.link.now) (k.means c.send_commands.new.link) (k.means c.loop-i.link) c.args.canvas.now c.args.due.now c.loop-i.due b c.loop-i.i
+    c.send_commands.ensures c.loop-i.invariant (omega arith) in
     record { sends = all.0; clears = all.1; long = words_length c.args.canvas.now b wide c.requires.shape }

@@ -7,8 +7,8 @@ use Rattle.screen.proofs.sweeps.sweep.Goals as goal
 pub loop-y-init : goal.loop-y-init
 loop-y-init g c = sweep_none (g.L.Link.means c.args.link.now) c.args.canvas.now c.args.due.now c.args.grant c.requires.1
 
-pub send-block-requires : goal.send-block-requires
-send-block-requires g c =
+pub send_block-requires : goal.send_block-requires
+send_block-requires g c =
     let k = g.L.Link in
     let inv = c.loop-y.invariant in
     let chosen = c.choose-m.ensures in
@@ -19,13 +19,13 @@ send-block-requires g c =
       marked = chosen_marked _ _ _ _ _ _ _ chosen;
     }
 
-pub overflow-sub-left : goal.overflow-sub-left
-overflow-sub-left g c = omega (arith, chosen_fits _ _ _ _ _ _ _ c.choose-m.ensures)
+pub overflow_sub-left : goal.overflow_sub-left
+overflow_sub-left g c = omega (arith, chosen_fits _ _ _ _ _ _ _ c.choose-m.ensures)
 
 pub loop-y-preserved : goal.loop-y-preserved
 loop-y-preserved g c =
     let k = g.L.Link in
     let wide : length c.args.canvas.now ≡ 8192 = search rules in
     let lines : length c.args.due.now ≡ 128 = search rules in
-    sweep_more (k.means c.args.link.now) c.args.canvas.now c.args.due.now c.args.grant (k.means c.loop-y.link) (k.means c.send-block.new.link) c.loop-y.due c.send-block.new.due
-    c.loop-y.left c.loop-y.y _ _ _ _ c.loop-y.invariant c.choose-m.ensures wide lines c.send-block.ensures.clears c.send-block.ensures.sends
+    sweep_more (k.means c.args.link.now) c.args.canvas.now c.args.due.now c.args.grant (k.means c.loop-y.link) (k.means c.send_block.new.link) c.loop-y.due c.send_block.new.due
+    c.loop-y.left c.loop-y.y _ _ _ _ c.loop-y.invariant c.choose-m.ensures wide lines c.send_block.ensures.clears c.send_block.ensures.sends

@@ -5,9 +5,9 @@ use Rattle.script.specs.Hex.{octet, bytes_of_hex}
 use Rattle.script.proofs.Octets.{bytes_and, pair_on, pair_stops, lone_stops, pairs_end}
 use Rattle.script.proofs.hex.hex_bytes.Goals as goal
 
-pub returns-in-default : goal.returns-in-default
-returns-in-default c =
-    c.loop-rest.invariant ∙ pair_stops (vec_items c.loop-rest.bytes) c.loop-rest.rest.now (omega arith) (sym c.octet.ensures ∙ c.in-default.is)
+pub returns-in_default : goal.returns-in_default
+returns-in_default c =
+    c.loop-rest.invariant ∙ pair_stops (vec_items c.loop-rest.bytes) c.loop-rest.rest.now (omega arith) (sym c.octet.ensures ∙ c.in_default.is)
 
 pub loop-rest-preserved : goal.loop-rest-preserved
 loop-rest-preserved c =
@@ -18,10 +18,10 @@ loop-rest-preserved c =
     ∙ ap (λ v. bytes_and v (bytes_of_hex (drop 2 rest))) (sym more)
     ∙ ap (λ s. bytes_and (vec_items c.push.new.self) (bytes_of_hex s)) (sym (take_rest rest 2))
 
-pub returns-then-is-empty : goal.returns-then-is-empty
-returns-then-is-empty c =
+pub returns-then-is_empty : goal.returns-then-is_empty
+returns-then-is_empty c =
     c.loop-rest.invariant ∙ pairs_end (vec_items c.loop-rest.bytes) c.loop-rest.rest.now (grind (arith, nat_tests))
 
-pub returns-else-is-empty : goal.returns-else-is-empty
-returns-else-is-empty c =
+pub returns-else-is_empty : goal.returns-else-is_empty
+returns-else-is_empty c =
     c.loop-rest.invariant ∙ lone_stops (vec_items c.loop-rest.bytes) c.loop-rest.rest.now (grind (arith, nat_tests))

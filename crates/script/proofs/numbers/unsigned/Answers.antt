@@ -5,16 +5,16 @@ use Rattle.script.specs.Numbers.{is_digit, number_on, fitting}
 use Rattle.script.proofs.Decimals.{digit_on, digit_stops, unsigned_none, unsigned_some}
 use Rattle.script.proofs.numbers.unsigned.Goals as goal
 
-pub returns-then-is-empty : goal.returns-then-is-empty
-returns-then-is-empty c = sym (unsigned_none c.args.field.now (grind (arith, nat_tests)))
+pub returns-then-is_empty : goal.returns-then-is_empty
+returns-then-is_empty c = sym (unsigned_none c.args.field.now (grind (arith, nat_tests)))
 
-pub returns-in-err-n : goal.returns-in-err-n
-returns-in-err-n c =
+pub returns-in_err-n : goal.returns-in_err-n
+returns-in_err-n c =
     let field = c.args.field.now in
     let n = c.loop-c.n in
     let i = c.loop-c.c-index in
     let d = get_or field i 0 in
-    let stops : (is_digit d && ltb (10 * n + (d - 48)) (2 ^ 32)) ≡ false = grind (arith, nat_tests, c.in-err-n.was) in
+    let stops : (is_digit d && ltb (10 * n + (d - 48)) (2 ^ 32)) ≡ false = grind (arith, nat_tests, c.in_err-n.was) in
     c.from-residual.ensures ∙ sym (
     unsigned_some field (grind (arith, nat_tests)) ∙ ap fitting (c.loop-c.invariant.1 ∙ at_drop_more (number_on n) field i 0 (omega arith))
     ∙ digit_stops n d (drop (i + 1) field) stops)
@@ -25,9 +25,9 @@ loop-c-preserved c =
     let n = c.loop-c.n in
     let i = c.loop-c.c-index in
     let d = get_or field i 0 in
-    let was = c.in-ok-n.was in
+    let was = c.in_ok-n.was in
     let goes : (is_digit d && ltb (10 * n + (d - 48)) (2 ^ 32)) ≡ true = grind (arith, nat_tests) in
-    let is : 10 * n + (d - 48) ≡ c.in-ok-n.n = grind (arith, nat_tests) in (
+    let is : 10 * n + (d - 48) ≡ c.in_ok-n.n = grind (arith, nat_tests) in (
       grind (arith, nat_tests),
       c.loop-c.invariant.1 ∙ at_drop_more (number_on n) field i 0 (omega arith) ∙ digit_on n d (drop (i + 1) field) goes
           ∙ ap (λ k. number_on k (drop (i + 1) field)) is,

@@ -8,11 +8,11 @@ use Rattle.script.specs.Whole.{lines_mean}
 use Rattle.script.proofs.Running.{after, line_on, line_stops, no_line_stops, lines_end}
 use Rattle.script.proofs.reads.read_lines.Goals as goal
 
-pub returns-in-default : goal.returns-in-default
-returns-in-default c =
+pub returns-in_default : goal.returns-in_default
+returns-in_default c =
     let here = ahead c.loop-ahead.ahead in
     let on : ended here ≡ false = search rules in
-    c.loop-ahead.invariant.0 ∙ no_line_stops (lines_mean c.loop-ahead.lines) c.loop-ahead.number here on c.in-default.ensures.line
+    c.loop-ahead.invariant.0 ∙ no_line_stops (lines_mean c.loop-ahead.lines) c.loop-ahead.number here on c.in_default.ensures.line
 
 pub returns-in-Err-Unreadable : goal.returns-in-Err-Unreadable
 returns-in-Err-Unreadable c =

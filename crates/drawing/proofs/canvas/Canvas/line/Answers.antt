@@ -2,7 +2,7 @@ use Rattle.std.proofs.Common.{◌≡◌, ℕ, ◌+◌, ◌≤◌, sym, ◌∙◌
 use Rattle.drawing.specs.Drawing.{Paint, placed}
 use Rattle.drawing.proofs.Steps.{line_some, line_none}
 use Rattle.drawing.proofs.canvas.Canvas.line.Goals as goal
-use Rattle.drawing.proofs.canvas.Canvas.line.Goals.{in-Some, in-default}
+use Rattle.drawing.proofs.canvas.Canvas.line.Goals.{in-Some, in_default}
 
 pub loop-x-preserved : goal.loop-x-preserved
 loop-x-preserved g c =
@@ -11,6 +11,6 @@ loop-x-preserved g c =
     elim c.match-tint.branch [
       | in-Some w ↦ simp w.self-is (line_some c.args.self.now c.loop-x.self w.put.new.self t c.args.across.from c.loop-x.x c.args.y w.in-Some.gray a
           (sym c.tint.ensures.value ∙ w.in-Some.is) c.loop-x.invariant w.put.ensures)
-      | in-default w ↦ simp w.self-is (line_none c.args.self.now c.loop-x.self t c.args.across.from c.loop-x.x c.args.y a
-          (sym c.tint.ensures.value ∙ w.in-default.is) c.loop-x.invariant)
+      | in_default w ↦ simp w.self-is (line_none c.args.self.now c.loop-x.self t c.args.across.from c.loop-x.x c.args.y a
+          (sym c.tint.ensures.value ∙ w.in_default.is) c.loop-x.invariant)
     ]

@@ -6,9 +6,9 @@ use Rattle.link.specs.Space.{capacity, transfers}
 use Rattle.link.proofs.Recorded.{nothing_recorded}
 use Rattle.link.proofs.recorder.ListingLink.new.Goals as goal
 
-pub invariant-of-result : goal.invariant-of-result
+pub invariant_of-result : goal.invariant_of-result
 unfolding text fits slot_after listed lines transfers
-invariant-of-result c = (omega arith, (refl, (refl, (refl, (refl, (omega arith, tt))))))
+invariant_of-result c = (omega arith, (refl, (refl, (refl, (refl, (omega arith, tt))))))
 
 pub returns : goal.returns
 unfolding listed lines

@@ -3,6 +3,6 @@ use Rattle.listing.specs.Listing.{text, fits, slot_after}
 use Rattle.listing.specs.ReadBack.{listed, lines}
 use Rattle.listing.proofs.reader.Reader.new.Goals as goal
 
-pub invariant-of-result : goal.invariant-of-result
+pub invariant_of-result : goal.invariant_of-result
 unfolding text fits slot_after listed lines
-invariant-of-result c = (search rules, (refl, (refl, (refl, tt))))
+invariant_of-result c = (search rules, (refl, (refl, (refl, tt))))

@@ -9,27 +9,27 @@ use Rattle.listing.proofs.reader.Reader.next.Goals as goal
 kept : (x : Reader) → Kept (take x.at x.text.now) x.slot
 kept x = record { spelled = x.spelled; lawful = x.lawful; stands = x.stands }
 
-pub returns-in-default : goal.returns-in-default
-returns-in-default c = let me = c.args.self.now in record {
+pub returns-in_default : goal.returns-in_default
+returns-in_default c = let me = c.args.self.now in record {
   same = refl;
-  read = (inr (omega arith, no_line me.text.now me.at _ (omega arith) (kept_lists (kept me)) c.in-default.ensures), refl);
+  read = (inr (omega arith, no_line me.text.now me.at _ (omega arith) (kept_lists (kept me)) c.in_default.ensures), refl);
 }
 
-pub returns-in-default-follow : goal.returns-in-default-follow
-returns-in-default-follow c = let me = c.args.self.now in record {
+pub returns-in_default-follow : goal.returns-in_default-follow
+returns-in_default-follow c = let me = c.args.self.now in record {
   same = refl;
   read = (
     inr (
       omega arith,
       barred_line me.text.now me.at _ me.slot c.in-Some.record (omega arith) (kept_lists (kept me)) me.stands c.in-Some.ensures
-          (not_followed _ _ (sym c.follow.ensures ∙ c.in-default-follow.is)),
+          (not_followed _ _ (sym c.follow.ensures ∙ c.in_default-follow.is)),
     ),
     refl,
   );
 }
 
-pub invariant-of-self : goal.invariant-of-self
-invariant-of-self c =
+pub invariant_of-self : goal.invariant_of-self
+invariant_of-self c =
     let me = c.args.self.now in
     let a = line_on me.text.now me.at c.width.result c.in-Some.record me.slot c.in-Some-follow.slot me.inside (kept me)
     c.in-Some.ensures.1 c.width.ensures (sym c.follow.ensures ∙ c.in-Some-follow.is) in

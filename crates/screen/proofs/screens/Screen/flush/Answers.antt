@@ -25,22 +25,22 @@ returns g c =
     let k = g.L.Link in
     let before = c.args.self.now in
     let s = shows k before in
-    let remap = c.send-setting-remap.result.0 in
-    let offset = c.send-setting-offset.result.0 in
-    let t = shows k (record { wiring = before.wiring; link = c.close-2.new.self; canvas = record { cells = before.canvas.cells; due = c.sweep-left.new.due }; lit = c.lit-after-self.result; owed = record { remap = remap; offset = offset } }) in
-    let rest = c.all-due-rest.ensures.sum in
-    let all : c.complete-all.result ≡ complete t = complete_is t c.all-due-rest.result c.complete-all.result c.complete-all.ensures rest in
+    let remap = c.send_setting-remap.result.0 in
+    let offset = c.send_setting-offset.result.0 in
+    let t = shows k (record { wiring = before.wiring; link = c.close-2.new.self; canvas = record { cells = before.canvas.cells; due = c.sweep-left.new.due }; lit = c.lit_after-self.result; owed = record { remap = remap; offset = offset } }) in
+    let rest = c.all_due-rest.ensures.sum in
+    let all : c.complete-all.result ≡ complete t = complete_is t c.all_due-rest.result c.complete-all.result c.complete-all.ensures rest in
     let o = k.means c.open.new.self in
-    let p0 = k.means c.send-setting-remap.new.link in
-    let p1 = k.means c.send-setting-offset.new.link in
+    let p0 = k.means c.send_setting-remap.new.link in
+    let p1 = k.means c.send_setting-offset.new.link in
     let p = k.means c.sweep-left.new.link in
     let q = k.means c.send.new.self in
-    let r0 = c.send-setting-remap.ensures in
-    let r1 = c.send-setting-offset.ensures in
+    let r0 = c.send_setting-remap.ensures in
+    let r1 = c.send_setting-offset.ensures in
     let remapped = setting_of o p0 0xA0 c.remap.result _ before.owed.remap remap _ _ c.remap.ensures (r0.sends, r0.left.0) in
     let offsets = setting_of p0 p1 0xA2 c.offset.result _ before.owed.offset offset _ _ c.offset.ensures (r1.sends, r1.left.0) in
     told_is s t o p0 p1 p q
-    c.args.n c.in-Ok.grant c.send-setting-remap.result.1 c.send-setting-offset.result.1 c.sweep-left.result c.send.result c.close-2.result
+    c.args.n c.in-Ok.grant c.send_setting-remap.result.1 c.send_setting-offset.result.1 c.sweep-left.result c.send.result c.close-2.result
     (elim c.else-self.branch [
       | else-self-via-then-self+else-complete w ↦ and_right s.lit (complete s) (sym (complete_is s w.all_due.result w.complete.result w.complete.ensures w.all_due.ensures.sum) ∙ w.if-complete.false)
       | else-self-via-else-self w ↦ and_left s.lit (complete s) w.if-self.false
@@ -48,10 +48,10 @@ returns g c =
     c.in-Ok.ensures.answer c.in-Ok.ensures.after
     remapped.0 remapped.1 offsets.0 offsets.1
     c.sweep-left.ensures.swept
-    c.all-due-rest.ensures.fit c.sweep-left.ensures.wide
+    c.all_due-rest.ensures.fit c.sweep-left.ensures.wide
     c.send.ensures.answer
-    (c.send.ensures.after ∙ ap (λ b. send_after p (Command b) c.send.result) (c.closing-byte-last.ensures ∙ ap (closing s.lit) all))
+    (c.send.ensures.after ∙ ap (λ b. send_after p (Command b) c.send.result) (c.closing_byte-last.ensures ∙ ap (closing s.lit) all))
     c.close-2.ensures.answer c.close-2.ensures.after
-    refl refl (c.lit-after-self.ensures ∙ ap (λ b. s.lit || b) all)
-    c.send-setting-remap.ensures.owed c.send-setting-offset.ensures.owed
-    c.complete-all.result c.all-due-rest.result c.told.result all rest c.told.ensures
+    refl refl (c.lit_after-self.ensures ∙ ap (λ b. s.lit || b) all)
+    c.send_setting-remap.ensures.owed c.send_setting-offset.ensures.owed
+    c.complete-all.result c.all_due-rest.result c.told.result all rest c.told.ensures

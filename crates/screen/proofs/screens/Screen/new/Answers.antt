@@ -10,7 +10,7 @@ pub returns : goal.returns
 unfolding Life
 returns g c =
     let m = g.L.Link.means c.args.link in
-    let fresh : true ≡ fresh_link m = seen_fresh m c.left.result c.taken.result c.left.ensures c.taken.ensures c.if-is-some.ensures c.if-taken-gt0.false in
+    let fresh : true ≡ fresh_link m = seen_fresh m c.left.result c.taken.result c.left.ensures c.taken.ensures c.if-is_some.ensures c.if-taken-gt0.false in
     let parts = fresh_parts (wires c.args.wiring) m c.new.result c.remap.result c.offset.result c.new.ensures c.remap.ensures c.offset.ensures in
     record {
       judged = fresh;

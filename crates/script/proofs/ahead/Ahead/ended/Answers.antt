@@ -7,7 +7,7 @@ pub returns-then-self : goal.returns-then-self
 unfolding ahead
 returns-then-self c =
     let self = c.args.self.now in
-    c.is-empty.ensures ∙ sym (ended_is self.whole self.rest.now ∙ ap (λ b. b && eqb (length self.rest.now) 0) c.if-self.true)
+    c.is_empty.ensures ∙ sym (ended_is self.whole self.rest.now ∙ ap (λ b. b && eqb (length self.rest.now) 0) c.if-self.true)
 
 pub returns-else-self : goal.returns-else-self
 unfolding ahead

@@ -9,8 +9,8 @@ use Rattle.ssd1329.proofs.controller.Controller.row_text.Goals.{then-gray-gt0, e
 pub loop-x-init : goal.loop-x-init
 loop-x-init c = none_so_far _ c.args.y c.args.out.now
 
-pub put-dot-at-requires : goal.put-dot-at-requires
-put-dot-at-requires c = (c.gray-gray.ensures.1, omega (arith, c.loop-x.invariant.short))
+pub put_dot-at-requires : goal.put_dot-at-requires
+put_dot-at-requires c = (c.gray-gray.ensures.1, omega (arith, c.loop-x.invariant.short))
 
 pub loop-x-preserved : goal.loop-x-preserved
 loop-x-preserved c =
@@ -20,7 +20,7 @@ loop-x-preserved c =
     let g = c.gray-gray.result in
     let is = c.gray-gray.ensures in
     elim c.if-gray-gt0.branch [
-      | then-gray-gt0 w ↦ so_far_is w.out-is w.at-is (lit_more gray y x g _ _ _ _ _ is.0 w.if-gray-gt0.true is.1 c.loop-x.invariant w.put-dot-at.ensures)
+      | then-gray-gt0 w ↦ so_far_is w.out-is w.at-is (lit_more gray y x g _ _ _ _ _ is.0 w.if-gray-gt0.true is.1 c.loop-x.invariant w.put_dot-at.ensures)
       | else-gray-gt0 w ↦ so_far_is w.out-is w.at-is (dark_more gray y x g _ _ _ is.0 w.if-gray-gt0.false c.loop-x.invariant)
     ]
 

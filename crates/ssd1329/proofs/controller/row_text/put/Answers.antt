@@ -7,6 +7,6 @@ returns c =
     let at = c.args.at in
     let bytes = c.args.bytes.now in
     record {
-      text = put_written c.args.out.now c.copy-from-slice.new.self bytes at (at + length bytes - at) (search rules) (omega arith);
+      text = put_written c.args.out.now c.copy_from_slice.new.self bytes at (at + length bytes - at) (search rules) (omega arith);
       ends = search rules;
     }

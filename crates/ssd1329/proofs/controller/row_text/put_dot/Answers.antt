@@ -6,14 +6,14 @@ use Rattle.ssd1329.proofs.controller.row_text.put_dot.Goals as goal
 pub put-at-requires : goal.put-at-requires
 put-at-requires c = omega (arith, decimal_short c.args.y)
 
-pub put-decimal-at-requires-2 : goal.put-decimal-at-requires-2
-put-decimal-at-requires-2 c = omega (arith, decimal_short c.args.y)
+pub put_decimal-at-requires-2 : goal.put_decimal-at-requires-2
+put_decimal-at-requires-2 c = omega (arith, decimal_short c.args.y)
 
 pub put-at-requires-2 : goal.put-at-requires-2
 put-at-requires-2 c = omega (arith, decimal_short c.args.y, decimal_short c.args.x)
 
-pub put-decimal-at-requires-3 : goal.put-decimal-at-requires-3
-put-decimal-at-requires-3 c = omega (arith, decimal_short c.args.y, decimal_short c.args.x)
+pub put_decimal-at-requires-3 : goal.put_decimal-at-requires-3
+put_decimal-at-requires-3 c = omega (arith, decimal_short c.args.y, decimal_short c.args.x)
 
 pub put-requires : goal.put-requires
 put-requires c =
@@ -26,4 +26,4 @@ unfolding dot_line
 returns c =
     let h : c.args.at ≤ length c.args.out.now = omega arith in
     put_same (simp append_assoc)
-    (and_then h (and_then h (and_then h (and_then h (and_then h c.put-decimal-at.ensures c.put-at.ensures) c.put-decimal-at-2.ensures) c.put-at-2.ensures) c.put-decimal-at-3.ensures) c.put.ensures)
+    (and_then h (and_then h (and_then h (and_then h (and_then h c.put_decimal-at.ensures c.put-at.ensures) c.put_decimal-at-2.ensures) c.put-at-2.ensures) c.put_decimal-at-3.ensures) c.put.ensures)

@@ -4,7 +4,7 @@ use Rattle.ssd1329.proofs.Fresh.{dropped_passes}
 use Rattle.link.specs.Seats.{seat_chip}
 use Rattle.link.proofs.panel.calls.PanelLink.close.Goals as goal
 
-pub invariant-of-self : goal.invariant-of-self
-invariant-of-self c =
+pub invariant_of-self : goal.invariant_of-self
+invariant_of-self c =
     let me = c.args.self.now in
-    (me.counted, (omega arith, ((λ z. ap is_reset c.end-slot.ensures.ended ∙ dropped_passes (seat_chip me.seat) (me.fresh z)), (search rules, tt))))
+    (me.counted, (omega arith, ((λ z. ap is_reset c.end_slot.ensures.ended ∙ dropped_passes (seat_chip me.seat) (me.fresh z)), (search rules, tt))))

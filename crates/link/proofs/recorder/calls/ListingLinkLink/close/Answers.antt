@@ -8,7 +8,7 @@ use Rattle.link.proofs.recorder.calls.ListingLinkLink.close.Goals as goal
 pub returns : goal.returns
 returns c =
     let me = c.args.self.now in
-    let one = some_left me.slot c.if-is-none.ensures in
+    let one = some_left me.slot c.if-is_none.ensures in
     let slot = sym me.stands ∙ one.1 in
     let l = c.list.ensures in
     record {

@@ -1,23 +1,44 @@
-// Tries cases with known answers, and says which differ.
+// Tries listings with known answers, and says which differ.
 //
-// data/ has listings (NNN.lst) with what the viewer should print (NNN.out), and lives (lNNN.scr, scripts for the
-// bench) with their answers (lNNN.ans) and their glass (lNNN.gls), all made by another model of the rules.
+// data/NNN.lst is a listing, data/NNN.out what the viewer should print, made by another model of the rules.
 #![tactic(auto)]
 
-mod edges;
-mod files;
-mod tally;
-mod wirings;
+use anyhow::anyhow;
+use listing::view;
+use ssd1329::Controller;
+use std::alloc::Global;
+use std::fs;
+
+const CASES: u32 = 120;
+
+// What the viewer prints for a text.
+fn viewed(heap: Global, text: &[u8]) -> anyhow::Result<Vec<u8>> {
+    let Ok(mut controller) = Controller::new(vec![in heap; 0u8; 8192]?) else {
+        return Err(anyhow!("a controller has 8192 bytes of memory"));
+    };
+    let mut out = Vec::new(heap);
+    view(text, &mut controller, &mut out)?;
+    Ok(out)
+}
+
+// Whether a case comes out as it should.
+fn agrees(rt: &HostRuntime, n: u32) -> anyhow::Result<bool> {
+    let heap = rt.alloc();
+    let text = fs::read(rt, format!(in heap; "{n:03}.lst")?)?;
+    let wanted = fs::read(rt, format!(in heap; "{n:03}.out")?)?;
+    let got = viewed(heap, text.as_slice())?;
+    Ok(got == wanted)
+}
 
 fn try_all(rt: &HostRuntime) -> anyhow::Result<()> {
-    let listings = files::try_listings(rt)?;
-    println!(rt; "listings: {listings}")?;
-    let lives = files::try_lives(rt)?;
-    println!(rt; "lives: {lives}")?;
-    let edges = edges::try_edges(rt.alloc())?;
-    println!(rt; "edges: {edges}")?;
-    let wirings = wirings::try_wirings(rt.alloc())?;
-    println!(rt; "wirings: {wirings}")?;
+    let mut differ: u32 = 0;
+    for n in 0..CASES {
+        if !agrees(rt, n)? {
+            differ = differ.saturating_add(1);
+            println!(rt; "{n:03} differs")?;
+        }
+    }
+    println!(rt; "{CASES} cases, {differ} differ")?;
     Ok(())
 }
 

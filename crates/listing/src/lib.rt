@@ -17,5 +17,5 @@ pub use laws::listings_are_plain;
 pub use reader::Reader;
 pub use reads::{check, replay};
 pub use record::Record;
-pub use view_text::view;
+pub use view_text::{view, view_on};
 pub use writer::write_record;

@@ -21,7 +21,7 @@ fn show_dots<W: Write>(controller: &Controller, wiring: &Wiring, out: &mut W) ->
 
 // Replays the text, and writes what a module of that wiring then shows: astray, dark, or lit and its dots.
 // Of a text that is no listing it writes the refusal and its place.
-pub fn view<W: Write>(
+pub fn view_on<W: Write>(
     text: &[u8],
     wiring: &Wiring,
     controller: &mut Controller,
@@ -40,4 +40,11 @@ pub fn view<W: Write>(
         show_dots(controller, wiring, out)?;
     }
     Ok(())
+}
+
+// The same on a module without marks.
+pub fn view<W: Write>(text: &[u8], controller: &mut Controller, out: &mut W) -> io::Result<()>
+    ensures { Viewed text.now (chip controller.old) (chip controller.new) }
+{
+    view_on(text, &Wiring::plain(), controller, out)
 }

@@ -3,7 +3,7 @@ use crate::runs::{Outcome, run};
 use crate::wanted::Wanted;
 use anyhow::anyhow;
 use link::ListingLink;
-use listing::{replay, view};
+use listing::{replay, view_on};
 use refusal::Refusal;
 use screen::{Answer, FlushFault, LeftOver};
 use script::{Card, Script, Unread, read};
@@ -112,7 +112,7 @@ fn write_wanted<W: Write>(
     match wanted {
         Wanted::Answers => write_answers(out, outcome)?,
         Wanted::Listing => out.write_all(text)?,
-        Wanted::Glass => view(text, wiring, &mut blank(heap)?, out)?,
+        Wanted::Glass => view_on(text, wiring, &mut blank(heap)?, out)?,
         Wanted::Image => {
             let mut controller = blank(heap)?;
             let _ = replay(text, &mut controller);

@@ -3,7 +3,7 @@
 
 use anyhow::anyhow;
 use listing::view;
-use ssd1329::{Controller, Wiring};
+use ssd1329::Controller;
 use std::io::Read;
 
 // One byte more than the longest listing: enough to see that a text is too long.
@@ -16,12 +16,7 @@ fn show(rt: &HostRuntime) -> anyhow::Result<()> {
     let Ok(mut controller) = Controller::new(vec![in heap; 0u8; 8192]?) else {
         return Err(anyhow!("a controller has 8192 bytes of memory"));
     };
-    view(
-        text.as_slice(),
-        &Wiring::plain(),
-        &mut controller,
-        &mut rt.stdout(),
-    )?;
+    view(text.as_slice(), &mut controller, &mut rt.stdout())?;
     Ok(())
 }
 

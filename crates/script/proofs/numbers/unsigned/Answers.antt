@@ -15,7 +15,7 @@ returns-in_err-n c =
     let i = c.loop-c.c-index in
     let d = get_or field i 0 in
     let stops : (is_digit d && ltb (10 * n + (d - 48)) (2 ^ 32)) ≡ false = grind (arith, nat_tests, c.in_err-n.was) in
-    c.from-residual.ensures ∙ sym (
+    c.from_residual.ensures ∙ sym (
     unsigned_some field (grind (arith, nat_tests)) ∙ ap fitting (c.loop-c.invariant.1 ∙ at_drop_more (number_on n) field i 0 (omega arith))
     ∙ digit_stops n d (drop (i + 1) field) stops)
 

@@ -3,4 +3,4 @@ use Rattle.std.proofs.Common.{arith, rules}
 use Rattle.link.proofs.panel.Panel.idle.Goals as goal
 
 pub invariant_of-result : goal.invariant_of-result
-invariant_of-result c = (omega arith, (omega arith, ((λ z. blank_passes), (search rules, tt))))
+invariant_of-result c = record { counted = omega arith; within = omega arith; fresh = λ z. blank_passes; idle = search rules }

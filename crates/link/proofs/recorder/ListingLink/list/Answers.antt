@@ -14,19 +14,15 @@ invariant_of-self c =
     let long = line_long r in
     let slot = c.slot_then-slot.ensures in
     let reserved : reserve c.slot_then-slot.result ≡ reserve (slot_then me.slot r) = ap reserve slot in
-    let room = c.requires.1 in (
-      omega arith,
-      (
-        k.kept.spelled,
-        (
-          k.kept.lawful,
-          (
-            slot ∙ k.kept.stands,
-            (counts_more _ _ r me.taken c.weight.result k.more me.counted c.weight.ensures, (omega (arith, weight_small r), tt)),
-          ),
-        ),
-      ),
-    )
+    let room = c.requires.1 in
+    record {
+      inside = omega arith;
+      spelled = k.kept.spelled;
+      lawful = k.kept.lawful;
+      stands = slot ∙ k.kept.stands;
+      counted = counts_more _ _ r me.taken c.weight.result k.more me.counted c.weight.ensures;
+      few = omega (arith, weight_small r);
+    }
 
 pub returns-in-Ok : goal.returns-in-Ok
 returns-in-Ok c =

@@ -8,7 +8,7 @@ use Rattle.link.proofs.recorder.ListingLink.new.Goals as goal
 
 pub invariant_of-result : goal.invariant_of-result
 unfolding text fits slot_after listed lines transfers
-invariant_of-result c = (omega arith, (refl, (refl, (refl, (refl, (omega arith, tt))))))
+invariant_of-result c = record { inside = omega arith; spelled = refl; lawful = refl; stands = refl; counted = refl; few = omega arith }
 
 pub returns : goal.returns
 unfolding listed lines

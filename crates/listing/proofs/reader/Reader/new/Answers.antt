@@ -5,4 +5,4 @@ use Rattle.listing.proofs.reader.Reader.new.Goals as goal
 
 pub invariant_of-result : goal.invariant_of-result
 unfolding text fits slot_after listed lines
-invariant_of-result c = (search rules, (refl, (refl, (refl, tt))))
+invariant_of-result c = record { inside = search rules; spelled = refl; lawful = refl; stands = refl }

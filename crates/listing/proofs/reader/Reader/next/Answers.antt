@@ -33,7 +33,7 @@ invariant_of-self c =
     let me = c.args.self.now in
     let a = line_on me.text.now me.at c.width.result c.in-Some.record me.slot c.in-Some-follow.slot me.inside (kept me)
     c.in-Some.ensures.1 c.width.ensures (sym c.follow.ensures ∙ c.in-Some-follow.is) in
-    (a.within, (a.kept.spelled, (a.kept.lawful, (a.kept.stands, tt))))
+    record { inside = a.within; spelled = a.kept.spelled; lawful = a.kept.lawful; stands = a.kept.stands }
 
 pub returns : goal.returns
 returns c =

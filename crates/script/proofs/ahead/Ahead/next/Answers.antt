@@ -9,7 +9,7 @@ pub returns-in_err-place : goal.returns-in_err-place
 unfolding ahead
 returns-in_err-place c =
     let self = c.args.self.now in
-    rw c.from-residual.ensures (record {
+    rw c.from_residual.ensures (record {
       line = ap (λ ps. next_line (lines_by self.whole ps)) c.in_err-place.ensures ∙ last_part self.whole self.rest.now;
       shorter = tt;
     })

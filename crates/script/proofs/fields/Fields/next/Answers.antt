@@ -6,7 +6,7 @@ use Rattle.script.proofs.fields.Fields.next.Goals as goal
 
 pub returns-in_err-text : goal.returns-in_err-text
 unfolding left
-returns-in_err-text c = rw c.from-residual.ensures (ap parted c.in_err-text.was)
+returns-in_err-text c = rw c.from_residual.ensures (ap parted c.in_err-text.was)
 
 pub returns-in-Some : goal.returns-in-Some
 unfolding left

@@ -7,4 +7,9 @@ use Rattle.link.proofs.panel.calls.PanelLink.close.Goals as goal
 pub invariant_of-self : goal.invariant_of-self
 invariant_of-self c =
     let me = c.args.self.now in
-    (me.counted, (omega arith, ((λ z. ap is_reset c.end_slot.ensures.ended ∙ dropped_passes (seat_chip me.seat) (me.fresh z)), (search rules, tt))))
+    record {
+      counted = me.counted;
+      within = omega arith;
+      fresh = λ z. ap is_reset c.end_slot.ensures.ended ∙ dropped_passes (seat_chip me.seat) (me.fresh z);
+      idle = search rules;
+    }

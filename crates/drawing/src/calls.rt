@@ -70,8 +70,8 @@ impl Canvas {
         x: i32,
         y: i32,
     ) -> Result<(), Refusal>
-        ensures painted { PlaceStep (pen_means pen.now) (means picture.now) x y self.old result self.new }
-        ensures book { ByTheBook (places (means picture.now) x y) (pen_means pen.now) self.old self.new }
+        ensures painted { PlaceStep (pen_means pen.now) (P.means picture.now) x y self.old result self.new }
+        ensures book { ByTheBook (places (P.means picture.now) x y) (pen_means pen.now) self.old self.new }
     {
         let rectangle = match Rectangle::new(x, y, picture.width(), picture.height()) {
             Ok(rectangle) => rectangle,

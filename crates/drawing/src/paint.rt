@@ -22,7 +22,7 @@ fn offset(p: usize, at: i32) -> Option<u32>
 // What a picture at a corner has for the dot (x, y).
 fn tint<P: Picture>(picture: &P, at: Corner, x: usize, y: usize) -> Option<u8>
     requires { (x < 128) × (y < 128) }
-    ensures value { result ≡ placed (means picture.now) at.x at.y x y }
+    ensures value { result ≡ placed (P.means picture.now) at.x at.y x y }
     ensures small { Shade result }
 {
     let Some(across) = offset(x, at.x) else {
@@ -40,7 +40,7 @@ fn tint<P: Picture>(picture: &P, at: Corner, x: usize, y: usize) -> Option<u8>
 impl Canvas {
     fn line<P: Picture>(&mut self, across: Span, y: usize, picture: &P, at: Corner)
         requires { y < 128 }
-        ensures { Drawn self.old (lined (placed (means picture.now) at.x at.y) across.from across.to y) self.new }
+        ensures { Drawn self.old (lined (placed (P.means picture.now) at.x at.y) across.from across.to y) self.new }
     {
         for x in across.from as usize..across.to as usize {
             if let Some(gray) = tint(picture, at, x, y) {
@@ -51,7 +51,7 @@ impl Canvas {
 
     // Only dots of the clip are looked at.
     pub(crate) fn fill<P: Picture>(&mut self, clip: Clip, picture: &P, at: Corner)
-        ensures { Drawn self.old (clipped (placed (means picture.now) at.x at.y) (area clip)) self.new }
+        ensures { Drawn self.old (clipped (placed (P.means picture.now) at.x at.y) (area clip)) self.new }
     {
         for y in clip.down.from as usize..clip.down.to as usize {
             self.line(clip.across, y, picture, at);

@@ -23,9 +23,9 @@ const NOTHING: u8 = 0xE3;
 
 // Sends a setting if it is owed and there is the grant: whether it is owed still, and what is left of the grant.
 fn send_setting<L: Link>(link: &mut L, owed: bool, opcode: u8, value: u8, grant: u32) -> (bool, u32)
-    requires { (Enough (means link.old).slot grant) × (0 < grant) }
+    requires { (Enough (L.means link.old).slot grant) × (0 < grant) }
     ensures owed { result.0 ≡ (owed && nat_lt grant 3) }
-    ensures sends { means link.new ≡ sent_all (means link.old) (setting opcode value owed result.0) }
+    ensures sends { L.means link.new ≡ sent_all (L.means link.old) (setting opcode value owed result.0) }
     ensures left { (result.1 + length (setting opcode value owed result.0) ≡ grant) × (0 < result.1) }
 {
     if owed && grant >= 3 {

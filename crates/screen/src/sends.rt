@@ -19,8 +19,8 @@ fn transfer(as_data: bool, byte: u8) -> Transfer
 
 // Sends each byte, as data or as a command.
 fn send_bytes<L: Link>(link: &mut L, bytes: &[u8], as_data: bool)
-    requires { Enough (means link.old).slot (length bytes.now) }
-    ensures { means link.new ≡ sent_all (means link.old) (map (as_transfer as_data) bytes.now) }
+    requires { Enough (L.means link.old).slot (length bytes.now) }
+    ensures { L.means link.new ≡ sent_all (L.means link.old) (map (as_transfer as_data) bytes.now) }
 {
     for b in bytes {
         let _ = link.send(transfer(as_data, *b));
@@ -28,15 +28,15 @@ fn send_bytes<L: Link>(link: &mut L, bytes: &[u8], as_data: bool)
 }
 
 pub(crate) fn send_data<L: Link>(link: &mut L, bytes: &[u8])
-    requires { Enough (means link.old).slot (length bytes.now) }
-    ensures { means link.new ≡ sent_all (means link.old) (map Data bytes.now) }
+    requires { Enough (L.means link.old).slot (length bytes.now) }
+    ensures { L.means link.new ≡ sent_all (L.means link.old) (map Data bytes.now) }
 {
     send_bytes(link, bytes, true);
 }
 
 pub(crate) fn send_commands<L: Link>(link: &mut L, bytes: &[u8])
-    requires { Enough (means link.old).slot (length bytes.now) }
-    ensures { means link.new ≡ sent_all (means link.old) (map Command bytes.now) }
+    requires { Enough (L.means link.old).slot (length bytes.now) }
+    ensures { L.means link.new ≡ sent_all (L.means link.old) (map Command bytes.now) }
 {
     send_bytes(link, bytes, false);
 }

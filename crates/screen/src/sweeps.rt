@@ -49,10 +49,10 @@ fn send_block<L: Link>(
     m: u8,
     h: u8,
 )
-    requires grant { Enough (means link.old).slot (6 + m * h) }
+    requires grant { Enough (L.means link.old).slot (6 + m * h) }
     requires shape { Shaped (block y a m h) }
     requires marked { (k : ℕ) → k < h → Part (slice_index due.old (y + k)) a m }
-    ensures sends { means link.new ≡ sent_all (means link.old) (words canvas.now (block y a m h)) }
+    ensures sends { L.means link.new ≡ sent_all (L.means link.old) (words canvas.now (block y a m h)) }
     ensures clears { Clears due.old (lines_of y a m h) due.new }
     ensures long { length (words canvas.now (block y a m h)) ≡ 6 + m * h }
 {
@@ -72,8 +72,8 @@ pub(crate) fn sweep<L: Link>(
     due: &mut [u64; 128],
     grant: u32,
 ) -> u32
-    requires { (Enough (means link.old).slot grant) × (0 < grant) }
-    ensures swept { Swept (means link.old) canvas.now due.old grant (means link.new) due.new result }
+    requires { (Enough (L.means link.old).slot grant) × (0 < grant) }
+    ensures swept { Swept (L.means link.old) canvas.now due.old grant (L.means link.new) due.new result }
     ensures wide { length canvas.now ≡ 8192 }
 {
     let mut left = grant;

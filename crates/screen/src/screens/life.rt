@@ -14,8 +14,8 @@ use ssd1329::Wiring;
 impl<L: Link> Screen<L> {
     // A fresh screen over a link that is closed and has taken nothing; another link is handed back.
     pub fn new(wiring: Wiring, link: L) -> Result<Screen<L>, HandedBack<L>>
-        ensures judged { is_ok result ≡ fresh_link (means link) }
-        ensures made { MatchResult result (λ s. shows L.Link s ≡ fresh_screen (wires wiring) (means link)) (λ e. e.refusal ≡ InUse) }
+        ensures judged { is_ok result ≡ fresh_link (L.means link) }
+        ensures made { MatchResult result (λ s. shows L.Link s ≡ fresh_screen (wires wiring) (L.means link)) (λ e. e.refusal ≡ InUse) }
         ensures begins { IfOk result (λ s. Begins L.Link s) }
         ensures kept { MatchResult result (λ s. s.link ≡ link) (λ e. e.value ≡ link) }
     {

@@ -5,7 +5,7 @@ use Rattle.std.proofs.lemmas.Bool.{cases_lt, cases_Bool, cases_order, both_ways}
 use Rattle.std.proofs.lemmas.Bool.Decides.{nat_tests}
 use Rattle.marks.specs.Marks.{bit, inside, due, First}
 use Rattle.marks.specs.Blocks.{Block, Shaped, area, Boxed, bytes_due}
-use Rattle.marks.specs.Sending.{Other, Chosen}
+use Rattle.marks.specs.Sending.{Other, EndsThere, Chosen}
 use Rattle.marks.proofs.Counts.{count_same, count_inside}
 use Rattle.marks.proofs.Digits.{bit_zero}
 use Rattle.marks.proofs.Zero.{count_none}
@@ -109,10 +109,10 @@ module _ (ws : List ℕ) (b : Block) (box : Boxed ws b) where
   box_bytes lines = sum_some due b.size ws b.line b.height (λ y l. box_line y (omega arith))
 
   -- the block that is taken at line y, with nothing due above and room for all of b
-  module _ (left y a len m h : ℕ) (c : Chosen ws left y a len m h) (room : area b + 7 ≤ left) (passed : (u : ℕ) → u < y → w u ≡ 0) where
+  module _ (left y a len m h : ℕ) (c : Chosen ws left y a len m h) (ends : EndsThere ws y a m ((left - 7) / m) h) (room : area b + 7 ≤ left) (passed : (u : ℕ) → u < y → w u ≡ 0) where
     -- it is in b
     run : Across b y a len
-    run = box_run y a len (omega (arith, c.tall.below, c.tall.high)) c.first
+    run = box_run y a len (omega (arith, c.below, c.high)) c.first
 
     -- every line above is done, so it begins where b does
     top : y ≡ b.line
@@ -128,7 +128,7 @@ module _ (ws : List ℕ) (b : Block) (box : Boxed ws b) where
     -- no line below b begins with its columns
     low : h ≤ b.height
     low = ⊎_elim
-        (λ (o : b.height < h). absurd (omega (arith, top, (box_run (y + b.height) a m (omega (arith, c.tall.below)) (c.tall.same b.height shape.high o)).bottom)))
+        (λ (o : b.height < h). absurd (omega (arith, top, (box_run (y + b.height) a m (omega (arith, c.below)) (c.same b.height shape.high o)).bottom)))
         (λ (o : h ≤ b.height). o)
         (cases_lt b.height h)
 
@@ -144,7 +144,7 @@ module _ (ws : List ℕ) (b : Block) (box : Boxed ws b) where
         (⊎_elim
         (λ (e : y + h ≡ 128). omega (arith, top, shape.below))
         (λ (e : Other (w (y + h)) a m). box_same (y + h) a m (record { top = omega (arith, top); bottom = omega (arith, top); start = run.start; long = whole }) e))
-        c.tall.ends))
+        ends))
         (λ (o : b.height ≤ h). o)
         (cases_lt h b.height)
 

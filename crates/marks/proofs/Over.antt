@@ -5,7 +5,7 @@ use Rattle.std.proofs.lemmas.Bool.{cases_lt}
 use Rattle.link.specs.Links.{LinkMeaning}
 use Rattle.marks.specs.Marks.{due, runs}
 use Rattle.marks.specs.Blocks.{Block, area, Boxed, traffic, bytes_due, runs_due, cost, worth}
-use Rattle.marks.specs.Sending.{Swept}
+use Rattle.marks.specs.Sending.{Swept, InOneBlock}
 use Rattle.marks.proofs.Accounts.{traffic_length}
 use Rattle.marks.proofs.Some.{some_due}
 use Rattle.marks.proofs.Zero.{none_due, cheap}
@@ -73,17 +73,17 @@ module _ (m : LinkMeaning) (canvas ws : List ℕ) (grant : ℕ) (n : LinkMeaning
       w.sweeping.pays
 
   -- where the bytes of one block were due, they take a window and a transfer each at most
-  pub swept_box : (b : Block) → Boxed ws b → sent ≤ area b + 6
-  swept_box b box =
+  pub swept_box : InOneBlock ws grant vs left → (b : Block) → Boxed ws b → sent ≤ area b + 6
+  swept_box one b box =
       let spent = w.sweeping.spent in
       ⊎_elim
       (λ (g : grant < area b + 7). omega (arith, w.sweeping.reserve))
-      (λ (g : area b + 7 ≤ grant). ⊎_elim (λ f. omega (arith, f.0)) (λ f. omega (arith, f.0)) (w.sweeping.boxed b box g))
+      (λ (g : area b + 7 ≤ grant). ⊎_elim (λ f. omega (arith, f.0)) (λ f. omega (arith, f.0)) (one b box g))
       (cases_lt grant (area b + 7))
 
   -- and where the grant has as many beside the closing one, nothing is left
-  pub swept_box_all : (b : Block) → Boxed ws b → area b + 7 ≤ grant → bytes_due vs ≡ 0
-  swept_box_all b box g = ⊎_elim
+  pub swept_box_all : InOneBlock ws grant vs left → (b : Block) → Boxed ws b → area b + 7 ≤ grant → bytes_due vs ≡ 0
+  swept_box_all one b box g = ⊎_elim
       (λ f. ⊎_elim (λ z. z) (λ (l : left < 8). absurd (omega (arith, f.0, mul-pos box.shaped.wide box.shaped.high))) swept_over)
       (λ f. f.1)
-      (w.sweeping.boxed b box g)
+      (one b box g)

@@ -5,7 +5,7 @@ use Rattle.std.proofs.lemmas.Bool.{cases_lt}
 use Rattle.link.specs.Links.{LinkMeaning}
 use Rattle.marks.specs.Marks.{First, Cleared}
 use Rattle.marks.specs.Blocks.{Stretch, Block, Shaped, area, Boxed, lines_of, parts, row, bytes, window, words, traffic, Front, Part, Clears, Covers, bytes_due, worth}
-use Rattle.marks.specs.Sending.{Enough, sent_all, Sweeping, Chosen, Blocking}
+use Rattle.marks.specs.Sending.{Enough, sent_all, Sweeping, InOneBlock, EndsThere, Chosen, Blocking}
 use Rattle.marks.proofs.Accounts.{row_length, words_length, clears_bytes, block_falls, cut_falls}
 use Rattle.marks.proofs.Boxes.{box_bytes, chosen_box}
 use Rattle.marks.proofs.Sends.{sent_then, sent_none, enough_then}
@@ -97,8 +97,10 @@ sweep_none m canvas ws grant h = record {
   fewer = omega arith;
   fell = λ l. absurd (omega arith);
   pays = inl (omega arith);
-  boxed = λ b box room. inl (refl, refl);
 }
+
+pub box_none : (ws : List ℕ) (grant : ℕ) → InOneBlock ws grant ws grant
+box_none ws grant = λ b box room. inl (refl, refl)
 
 -- what a block leaves of the other lines
 pub others_kept : (ws : List ℕ) (y a m h : ℕ) (vs : List ℕ) → Clears ws (lines_of y a m h) vs → (length vs ≡ length ws) × ((u : ℕ) → u < y → get_or vs u 0 ≡ get_or ws u 0)
@@ -118,14 +120,14 @@ module _ (vs : List ℕ) (left y a len m h : ℕ) (c : Chosen vs left y a len m 
 
   -- one transfer is left for the closing command
   pub chosen_fits : 7 + m * h ≤ left
-  chosen_fits = omega (arith, mul-le-mul_left m c.tall.fits, mul-div-le (left - 7) m, c.room)
+  chosen_fits = omega (arith, mul-le-mul_left m c.fits, mul-div-le (left - 7) m, c.room)
 
   pub chosen_shaped : Shaped block
-  chosen_shaped = record { high = c.tall.high; wide = chosen_wide; within = omega (arith, c.first.within, c.most); below = c.tall.below }
+  chosen_shaped = record { high = c.high; wide = chosen_wide; within = omega (arith, c.first.within, c.most); below = c.below }
 
   pub chosen_marked : (k : ℕ) → k < h → Part (get_or vs (y + k) 0) a m
   chosen_marked k l = ⊎_elim
-      (λ (z : 0 < k). record { len = m; first = c.tall.same k z l; part = omega arith })
+      (λ (z : 0 < k). record { len = m; first = c.same k z l; part = omega arith })
       (λ (z : k ≤ 0). let e : y + k ≡ y = omega arith in rw e (record { len = len; first = c.first; part = omega (arith, c.most) }))
       (cases_lt 0 k)
 
@@ -133,7 +135,7 @@ module _ (vs : List ℕ) (left y a len m h : ℕ) (c : Chosen vs left y a len m 
     -- each byte of the block was due
     pub chosen_falls : bytes_due us < bytes_due vs
     chosen_falls =
-        let some-area : m * 1 ≤ m * h = mul-le-mul_left m c.tall.high in
+        let some-area : m * 1 ≤ m * h = mul-le-mul_left m c.high in
         omega (arith, clears_bytes vs y a m h us clears, chosen_wide)
 
     -- each transfer is for a byte or a run that goes; or the run is cut, and one transfer is left
@@ -141,17 +143,17 @@ module _ (vs : List ℕ) (left y a len m h : ℕ) (c : Chosen vs left y a len m 
     chosen_pays = ⊎_elim
         (λ (l : m < len).
         let is : m ≡ left - 7 = omega (arith, c.most) in
-        let one : h ≡ 1 = omega (arith, c.tall.fits, c.tall.high, c.room, ap (λ x. (left - 7) / x) is, div_self {n = left - 7} (omega (arith, c.room))) in
+        let one : h ≡ 1 = omega (arith, c.fits, c.high, c.room, ap (λ x. (left - 7) / x) is, div_self {n = left - 7} (omega (arith, c.room))) in
         let flat : m * h ≡ m = ap (λ x. m * x) one ∙ omega arith in
         let p = cut_falls vs y a m len us (subst (λ (x : ℕ). Clears vs (lines_of y a m x) us) one clears) c.first l in
         inr (omega (arith, c.room), omega (arith, p.0), p.1))
         (λ (l : len ≤ m).
         let e : len ≡ m = omega (arith, c.most) in
         let whole : (k : ℕ) → k < h → First (get_or vs (y + k) 0) a m = λ k i. ⊎_elim
-        (λ (z : 0 < k). c.tall.same k z i)
+        (λ (z : 0 < k). c.same k z i)
         (λ (z : k ≤ 0). let on : y + k ≡ y = omega arith in rw on (subst (λ (x : ℕ). First (get_or vs y 0) a x) e c.first))
         (cases_lt 0 k) in
-        inl (omega (arith, block_falls vs y a m h us clears whole, c.tall.high)))
+        inl (omega (arith, block_falls vs y a m h us clears whole, c.high)))
         (cases_lt m len)
 
 -- ---- a block more
@@ -187,14 +189,14 @@ module _ (o : LinkMeaning) (canvas ws : List ℕ) (grant : ℕ) (n n' : LinkMean
       (chosen_pays vs left y a len m h c us clears)
 
   -- where the bytes of one block were due, this is it: it is the first, and takes them all
-  boxed_more : (d : Block) → Boxed ws d → area d + 7 ≤ grant → ((left - (6 + m * h) ≡ grant) × (us ≡ ws)) ⊎ ((left - (6 + m * h) + (area d + 6) ≡ grant) × (bytes_due us ≡ 0))
-  boxed_more d box room = ⊎_elim
+  pub box_more : InOneBlock ws grant vs left → EndsThere vs y a m ((left - 7) / m) h → InOneBlock ws grant us (left - (6 + m * h))
+  box_more one ends d box room = ⊎_elim
       (λ (f : (left ≡ grant) × (vs ≡ ws)).
       let here : Boxed vs d = subst (λ (x : List ℕ). Boxed x d) (sym f.1) box in
-      let same : m * h ≡ area d = chosen_box vs d here left y a len m h c (omega (arith, f.0)) i.passed in
+      let same : m * h ≡ area d = chosen_box vs d here left y a len m h c ends (omega (arith, f.0)) i.passed in
       inr (omega (arith, f.0, chosen_fits vs left y a len m h c), omega (arith, clears_bytes vs y a m h us clears, box_bytes vs d here (i.long ∙ lines))))
       (λ (f : (left + (area d + 6) ≡ grant) × (bytes_due vs ≡ 0)). absurd (omega (arith, f.1, chosen_falls vs left y a len m h c us clears)))
-      (i.boxed d box room)
+      (one d box room)
 
   pub sweep_more : Sweeping o canvas ws grant n' us (left - (6 + m * h)) y
   sweep_more =
@@ -212,5 +214,4 @@ module _ (o : LinkMeaning) (canvas ws : List ℕ) (grant : ℕ) (n n' : LinkMean
         fewer = omega (arith, falls, i.fewer);
         fell = λ _. omega (arith, falls, i.fewer);
         pays = pays_more;
-        boxed = boxed_more;
       }

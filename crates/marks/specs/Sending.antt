@@ -44,8 +44,6 @@ pub record Sweeping (m : LinkMeaning) (canvas ws : List ℕ) (grant : ℕ) (n : 
   -- each transfer was for a byte or a run that is gone; or the last run was cut, and one transfer is left
   pub pays : (length (traffic canvas blocks) + worth vs ≤ worth ws)
       ⊎ ((left ≡ 1) × (length (traffic canvas blocks) + worth vs ≤ worth ws + 6) × (7 ≤ worth vs))
-  -- where the bytes of one block were due, and there is room for all of it: nothing is sent yet, or just this block
-  pub boxed : (b : Block) → Boxed ws b → area b + 7 ≤ grant → ((left ≡ grant) × (vs ≡ ws)) ⊎ ((left + (area b + 6) ≡ grant) × (bytes_due vs ≡ 0))
 
 -- the same at the end: no line is left to look at, or no window with a byte fits beside the closing command
 pub record Swept (m : LinkMeaning) (canvas ws : List ℕ) (grant : ℕ) (n : LinkMeaning) (vs : List ℕ) (left : ℕ) : Type 0 where
@@ -53,26 +51,30 @@ pub record Swept (m : LinkMeaning) (canvas ws : List ℕ) (grant : ℕ) (n : Lin
   pub sweeping : Sweeping m canvas ws grant n vs left upto
   pub over : (length ws ≤ upto) ⊎ (left < 8)
 
+-- Where the bytes of one block were due, and there is room for all of it: nothing is sent yet, or just this block.
+abbrev pub InOneBlock : List ℕ → ℕ → List ℕ → ℕ → Type 0
+InOneBlock ws grant vs left =
+    (b : Block) → Boxed ws b → area b + 7 ≤ grant → ((left ≡ grant) × (vs ≡ ws)) ⊎ ((left + (area b + 6) ≡ grant) × (bytes_due vs ≡ 0))
+
 -- the first due run of w is not the m bytes from a on: no byte is due, or another run comes first
 abbrev pub Other : ℕ → ℕ → ℕ → Type 0
 Other w a m = (w ≡ 0) ⊎ ((s : ℕ) × (n : ℕ) × First w s n × (s ≡ a → n ≢ m))
 
--- Of the lines from y on, h are taken, of which at most `most` may be. Below line y each begins with just the m bytes from a on.
-pub record Tall (ws : List ℕ) (y a m most h : ℕ) : Type 0 where
-  pub high : 0 < h
-  pub fits : h ≤ most
-  pub below : y + h ≤ 128
-  pub same : (k : ℕ) → 0 < k → k < h → First (slice_index ws (y + k)) a m
-  -- one more cannot be: no more may be, or there is no line below, or it begins otherwise
-  pub ends : (h ≡ most) ⊎ ((y + h ≡ 128) ⊎ Other (slice_index ws (y + h)) a m)
+-- Of the lines from y on, h are taken, of which at most `most` may be, and one more cannot be:
+-- no more may be, or there is no line below, or it does not begin with just the m bytes from a on.
+abbrev pub EndsThere : List ℕ → ℕ → ℕ → ℕ → ℕ → ℕ → Type 0
+EndsThere ws y a m most h = (h ≡ most) ⊎ ((y + h ≡ 128) ⊎ Other (slice_index ws (y + h)) a m)
 
 -- The block that is taken at line y where `left` transfers are left. The first due run there has len bytes from a on;
--- m of them fit beside a window and the closing command; and h lines from y on, as many as begin with just these and fit.
+-- m of them fit beside a window and the closing command; and of the lines from y on that begin with just these, h fit.
 pub record Chosen (ws : List ℕ) (left y a len m h : ℕ) : Type 0 where
   pub room : 8 ≤ left
   pub first : First (slice_index ws y) a len
   pub most : m ≡ min len (left - 7)
-  pub tall : Tall ws y a m ((left - 7) / m) h
+  pub high : 0 < h
+  pub fits : h ≤ (left - 7) / m
+  pub below : y + h ≤ 128
+  pub same : (k : ℕ) → 0 < k → k < h → First (slice_index ws (y + k)) a m
 
 -- of a block, i lines are sent
 pub record Blocking (o : LinkMeaning) (canvas ws : List ℕ) (y a m : ℕ) (n : LinkMeaning) (vs : List ℕ) (i : ℕ) : Type 0 where

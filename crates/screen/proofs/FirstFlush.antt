@@ -29,6 +29,6 @@ fresh_owing w m =
     omega (arith, two s.remap_owed, two s.offset_owed)
 
 pub first_flush_is_short : FirstFlushIsShort
-first_flush_is_short w m n t f =
+first_flush_is_short w m n count t f =
     let few = fresh_owing w m in
-    (omega (arith, f.box_most frame fresh_boxed), λ g. f.box_all frame fresh_boxed (omega arith))
+    (omega (arith, f.most frame fresh_boxed), λ grant is room. f.all frame fresh_boxed grant is (omega arith))

@@ -7,13 +7,13 @@ use Rattle.ssd1329.specs.declared.transfer.Transfer.TheVariants.{Command}
 use Rattle.ssd1329.specs.Wiring.{settings_for}
 use Rattle.link.specs.Links.{LinkMeaning, open_answer, open_after, send_answer, send_after, close_answer, CloseAfter}
 use Rattle.marks.specs.Blocks.{Block, area, Boxed, traffic, bytes_due, worth}
-use Rattle.marks.specs.Sending.{Enough, Session, sent_all, Sweeping, Swept}
+use Rattle.marks.specs.Sending.{Enough, Session, sent_all, Sweeping, Swept, InOneBlock}
 use Rattle.marks.proofs.Over.{swept_over, swept_moves, swept_most, swept_all, swept_count, swept_blocks, swept_box, swept_box_all}
 use Rattle.marks.proofs.Sends.{sent_then, one_sent, enough_then}
 use Rattle.marks.proofs.Sessions.{session}
 use Rattle.screen.specs.declared.answers.FlushFault.{FlushFault}
 use Rattle.screen.specs.declared.answers.FlushFault.TheVariants as by
-use Rattle.screen.specs.Flushing.{setting, remap_sent, offset_sent, complete, closing, sending, owing, Flushed, Told, FlushStep}
+use Rattle.screen.specs.Flushing.{setting, remap_sent, offset_sent, complete, closing, sending, owing, Flushed, Told, FlushStep, InOneWindow, WindowStep}
 use Rattle.screen.specs.Screens.{ScreenMeaning}
 use Rattle.screen.proofs.Settings.{two, setting_long, sent_now}
 
@@ -91,9 +91,6 @@ module _ (s t : ScreenMeaning) (o p0 p1 p q : LinkMeaning) (n grant free rest le
   all : owing s + worth s.canvas.due + 1 ≤ grant → complete t ≡ true
   all g = whole (omega arith) (swept_all p1 s.canvas.cells s.canvas.due rest p t.canvas.due left w fits (omega (arith, few_rs, few_os, remap-left, offset-left)))
 
-  box_all : (b : Block) → Boxed s.canvas.due b → owing s + 6 + area b + 1 ≤ grant → complete t ≡ true
-  box_all b box g = whole (omega arith) (swept_box_all p1 s.canvas.cells s.canvas.due rest p t.canvas.due left w b box (omega (arith, few_rs, few_os, remap-left, offset-left)))
-
   moves : 12 ≤ grant → (complete t ≡ true) ⊎ (bytes_due t.canvas.due < bytes_due s.canvas.due)
   moves g =
       let most : owing s ≤ 4 = omega (arith, two s.remap_owed, two s.offset_owed) in
@@ -120,16 +117,35 @@ module _ (s t : ScreenMeaning) (o p0 p1 p q : LinkMeaning) (n grant free rest le
     all = all;
     by_blocks = omega (arith, long, few_rs, few_os, swept_count p1 s.canvas.cells s.canvas.due rest p t.canvas.due left w wide);
     few_blocks = swept_blocks p1 s.canvas.cells s.canvas.due rest p t.canvas.due left w fits wide;
-    box_most = λ b box. omega (arith, long, few_rs, few_os, swept_box p1 s.canvas.cells s.canvas.due rest p t.canvas.due left w b box);
-    box_all = box_all;
     full = ⊎_elim (λ z. inl z) (λ (l : left < 8). inr (omega (arith, long, remap-left, offset-left, h.spent))) (swept_over p1 s.canvas.cells s.canvas.due rest p t.canvas.due left w);
     moves = moves;
   }
 
-  pub told_is : (told : Bool) (due : ℕ) (r : Result ℕ FlushFault) → told ≡ complete t → due ≡ bytes_due t.canvas.due
+  -- where the bytes of one block were due, one window was enough
+  in_one_window : InOneBlock s.canvas.due rest t.canvas.due left → (count : ℕ) → count ≡ grant - left + 1 → InOneWindow s n count t
+  in_one_window one count is = record {
+    most = λ b box. omega (arith, counted, long, few_rs, few_os, swept_box p1 s.canvas.cells s.canvas.due rest p t.canvas.due left w one b box);
+    all = λ b box g granted room.
+        let same : ◌≡◌ {A = Result ℕ Refusal} (Ok grant) (Ok g) = opens ∙ granted in
+        let e : grant ≡ g = cc in
+        whole (omega arith) (swept_box_all p1 s.canvas.cells s.canvas.due rest p t.canvas.due left w one b box (omega (arith, few_rs, few_os, remap-left, offset-left)));
+  }
+
+  window_is : InOneBlock s.canvas.due rest t.canvas.due left → (told : Bool) (due : ℕ) (r : Result ℕ FlushFault)
+      → Told told (grant - left + 1) due t.canvas.due r → WindowStep s n r t
+  window_is one told due (Ok m) so = in_one_window one m so.1
+  window_is one told due (Err (by.Refused e)) so = tt
+  window_is one told due (Err (by.LeftOver l)) so = in_one_window one l.count so.1
+
+  told_is : (told : Bool) (due : ℕ) (r : Result ℕ FlushFault) → told ≡ complete t → due ≡ bytes_due t.canvas.due
       → Told told (grant - left + 1) due t.canvas.due r → FlushStep s n r t
   unfolding flush_is
   told_is told due (Ok m) is due-is so = record { flushed = flush_is; all = sym is ∙ so.0; counted = so.1 ∙ counted }
   told_is told due (Err (by.Refused e)) is due-is so = absurd so
   told_is told due (Err (by.LeftOver l)) is due-is so =
       record { flushed = flush_is; not_all = sym is ∙ so.0; counted = so.1 ∙ counted; due = so.2 ∙ due-is; first = so.3 }
+
+  -- both of what a flush says
+  pub flush_told : (told : Bool) (due : ℕ) (r : Result ℕ FlushFault) → told ≡ complete t → due ≡ bytes_due t.canvas.due
+      → Told told (grant - left + 1) due t.canvas.due r → InOneBlock s.canvas.due rest t.canvas.due left → FlushStep s n r t × WindowStep s n r t
+  flush_told told due r is due-is so one = (told_is told due r is due-is so, window_is one told due r so)

@@ -7,7 +7,7 @@ use Rattle.marks.specs.Blocks.{bytes_due, worth, traffic}
 use Rattle.marks.specs.Sending.{sent_all}
 use Rattle.marks.proofs.Sends.{sent_none}
 use Rattle.marks.proofs.Sessions.{session}
-use Rattle.screen.specs.Flushing.{remap_sent, offset_sent, complete, closing, sending, owing, Flushed, Done}
+use Rattle.screen.specs.Flushing.{remap_sent, offset_sent, complete, closing, sending, owing, Flushed, Done, InOneWindow}
 use Rattle.screen.specs.Screens.{ScreenMeaning}
 
 abbrev with_link : ScreenMeaning → LinkMeaning → ScreenMeaning
@@ -52,7 +52,7 @@ module _ (s : ScreenMeaning) (o l : LinkMeaning) (n grant : ℕ) (cr : Result (U
   short : length (sending s [] t) ≡ 0
   short = ap length nothing
 
-  pub rest_is : Done s n 0 (with_link s l)
+  rest_is : Done s n 0 (with_link s l)
   rest_is = record {
     flushed = record {
       grant = grant;
@@ -68,11 +68,16 @@ module _ (s : ScreenMeaning) (o l : LinkMeaning) (n grant : ℕ) (cr : Result (U
       all = λ g. whole;
       by_blocks = omega (arith, short);
       few_blocks = omega arith;
-      box_most = λ b box. omega (arith, short);
-      box_all = λ b box g. whole;
       full = inl none_due;
       moves = λ g. inl whole;
     };
     all = whole;
     counted = sym short;
   }
+
+  in_one_window : InOneWindow s n 0 (with_link s l)
+  in_one_window = record { most = λ b box. omega arith; all = λ b box g is room. whole }
+
+  -- both of what a flush says
+  pub rest_told : Done s n 0 (with_link s l) × InOneWindow s n 0 (with_link s l)
+  rest_told = (rest_is, in_one_window)

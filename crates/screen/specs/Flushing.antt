@@ -59,9 +59,6 @@ pub record Flushed (s : ScreenMeaning) (n : ℕ) (t : ScreenMeaning) : Type 0 wh
   -- counted by blocks, of which there are no more than runs
   pub by_blocks : length (sending s blocks t) ≤ owing s + bytes_due s.canvas.due + 6 * length blocks + 1
   pub few_blocks : length blocks ≤ runs_due s.canvas.due
-  -- where the bytes of one block are due, at most the settings, its window, a transfer for each byte, and the closing one; where the grant has as many, all is sent
-  pub box_most : (b : Block) → Boxed s.canvas.due b → length (sending s blocks t) ≤ owing s + 6 + area b + 1
-  pub box_all : (b : Block) → Boxed s.canvas.due b → owing s + 6 + area b + 1 ≤ grant → complete t ≡ true
   -- it stops only where no byte is due, or where no window with a byte fits beside the closing command
   pub full : (bytes_due t.canvas.due ≡ 0) ⊎ (grant < length (sending s blocks t) + 7)
   pub moves : 12 ≤ grant → (complete t ≡ true) ⊎ (bytes_due t.canvas.due < bytes_due s.canvas.due)
@@ -101,3 +98,14 @@ abbrev pub FlushStep : ScreenMeaning → ℕ → Result ℕ FlushFault → Scree
 FlushStep s n (Ok count) t = Done s n count t
 FlushStep s n (Err (by.Refused e)) t = (t ≡ s) × (open_answer s.link n ≡ Err e)
 FlushStep s n (Err (by.LeftOver l)) t = Left s n l t
+
+-- A flush that asked for n transfers and told that it took `count` led from s to t. Where the bytes of one block were due, these are
+-- at most the settings, its window, a transfer for each byte, and the closing one; where the grant has as many, all is sent.
+pub record InOneWindow (s : ScreenMeaning) (n count : ℕ) (t : ScreenMeaning) : Type 0 where
+  pub most : (b : Block) → Boxed s.canvas.due b → count ≤ owing s + 6 + area b + 1
+  pub all : (b : Block) → Boxed s.canvas.due b → (grant : ℕ) → open_answer s.link n ≡ Ok grant → owing s + 6 + area b + 1 ≤ grant → complete t ≡ true
+
+abbrev pub WindowStep : ScreenMeaning → ℕ → Result ℕ FlushFault → ScreenMeaning → Type 0
+WindowStep s n (Ok count) t = InOneWindow s n count t
+WindowStep s n (Err (by.Refused e)) t = Unit {0}
+WindowStep s n (Err (by.LeftOver l)) t = InOneWindow s n l.count t

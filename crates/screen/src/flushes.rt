@@ -2,7 +2,7 @@
 ghost use Rattle.std.specs.Prelude.{◌≡◌, ℕ, ◌+◌, ◌<◌, not, ◌&&◌, ◌||◌, length, ◌==◌, nat_lt};
 ghost use Rattle.marks.specs.Blocks.{bytes_due};
 ghost use Rattle.marks.specs.Sending.{Enough, sent_all};
-ghost use Rattle.screen.specs.Flushing.{setting, closing, Found, Told, FlushStep};
+ghost use Rattle.screen.specs.Flushing.{setting, closing, Found, Told, FlushStep, WindowStep};
 ghost use Rattle.screen.specs.Screens.{shows};
 
 use crate::answers::{FlushFault, LeftOver, Place};
@@ -89,7 +89,8 @@ fn told(all: bool, count: u32, left: u32, due: &[u64; 128]) -> Result<u32, Flush
 impl<L: Link> Screen<L> {
     // Sends what is left to send over one slot of n transfers.
     pub fn flush(&mut self, n: u32) -> Result<u32, FlushFault>
-        ensures { FlushStep (shows L.Link self.old) n result (shows L.Link self.new) }
+        ensures step { FlushStep (shows L.Link self.old) n result (shows L.Link self.new) }
+        ensures window { WindowStep (shows L.Link self.old) n result (shows L.Link self.new) }
     {
         let grant = match self.link.open(n) {
             Ok(grant) => grant,

@@ -1,8 +1,8 @@
 // Sending due bytes as blocks.
-ghost use Rattle.std.specs.Prelude.{◌≡◌, ℕ, ◌+◌, ◌-◌, ◌*◌, ◌^◌, ◌<◌, ◌≤◌, map, length, slice_index};
+ghost use Rattle.std.specs.Prelude.{◌≡◌, ℕ, ◌+◌, ◌-◌, ◌*◌, ◌/◌, ◌^◌, ◌<◌, ◌≤◌, map, length, slice_index};
 ghost use Rattle.marks.specs.Marks.{First};
 ghost use Rattle.marks.specs.Blocks.{block, lines_of, words, bytes_due, Shaped, Part, Clears};
-ghost use Rattle.marks.specs.Sending.{Chosen, Enough, sent_all, Swept, Tall};
+ghost use Rattle.marks.specs.Sending.{Chosen, EndsThere, Enough, InOneBlock, sent_all, Swept};
 
 use crate::sends::{send_commands, send_data};
 use link::Link;
@@ -11,7 +11,8 @@ use marks::{Run, cleared, due_bytes, first_run};
 // How many lines from y on, at most `most`, have that first run, down to the first that does not. Line y itself is not looked at.
 fn height_of(due: &[u64; 128], y: u8, run: Run, most: u32) -> u8
     requires { (y < 128) × (0 < most) }
-    ensures tall { Tall due.now y run.start run.len most result }
+    ensures tall { (0 < result) × (result ≤ most) × (y + result ≤ 128) × ((k : ℕ) → 0 < k → k < result → First (slice_index due.now (y + k)) run.start run.len) }
+    ensures ends { EndsThere due.now y run.start run.len most result }
 {
     let mut h = 1u8;
     while y + h < 128 && (h as u32) < most {
@@ -29,7 +30,8 @@ fn height_of(due: &[u64; 128], y: u8, run: Run, most: u32) -> u8
 // The block to send at line y, by the first run there: how wide and how tall it is, with `left` transfers left.
 fn choose(due: &[u64; 128], y: u8, run: Run, left: u32) -> (u32, u8)
     requires { (y < 128) × ((8 ≤ left) × (First (slice_index due.now y) run.start run.len)) }
-    ensures { Chosen due.now left y run.start run.len result.0 result.1 }
+    ensures chosen { Chosen due.now left y run.start run.len result.0 result.1 }
+    ensures ends { EndsThere due.now y run.start result.0 ((left - 7) / result.0) result.1 }
 {
     let m = run.len.min(left - 7);
     let narrower = Run {
@@ -74,6 +76,7 @@ pub(crate) fn sweep<L: Link>(
 ) -> u32
     requires { (Enough (L.means link.old).slot grant) × (0 < grant) }
     ensures swept { Swept (L.means link.old) canvas.now due.old grant (L.means link.new) due.new result }
+    ensures boxed { InOneBlock due.old grant due.new result }
     ensures wide { length canvas.now ≡ 8192 }
 {
     let mut left = grant;

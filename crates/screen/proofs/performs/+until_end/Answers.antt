@@ -12,11 +12,11 @@ use Rattle.screen.proofs.performs.+until_end.Goals as goal
 
 pub loop-done-init : goal.loop-done-init
 loop-done-init g t c =
-    (omega arith, (λ stack. reached g.row.P-Picture _ _ c.args.script.now _ _ 0 (ran_none g.row.P-Picture _ (vec_items c.args.answers.now))), omega (arith, c.requires))
+    (omega arith, (λ stack. reached g.P.Picture _ _ c.args.script.now _ _ 0 (ran_none g.P.Picture _ (vec_items c.args.answers.now))), omega (arith, c.requires))
 
 pub loop-done-preserved-in-Some : goal.loop-done-preserved-in-Some
 loop-done-preserved-in-Some g t c =
-    let k = g.row.P-Picture in
+    let k = g.P.Picture in
     let script = c.args.script.now in
     let i = c.loop-done.done in
     let h : i < length script = c.loop-done-test.true in
@@ -35,7 +35,7 @@ loop-done-preserved-in-Some g t c =
 
 pub returns-in_default-call : goal.returns-in_default-call
 returns-in_default-call g t c =
-    let k = g.row.P-Picture in
+    let k = g.P.Picture in
     let script = c.args.script.now in
     let i = c.loop-done.done in
     let call = c.index-script-done.result in
@@ -50,7 +50,7 @@ returns-in_default-call g t c =
 
 pub loop-done-preserved-in-Err : goal.loop-done-preserved-in-Err
 loop-done-preserved-in-Err g t c =
-    let k = g.row.P-Picture in
+    let k = g.P.Picture in
     let script = c.args.script.now in
     let i = c.loop-done.done in
     let h : i < length script = c.loop-done-test.true in
@@ -73,7 +73,7 @@ loop-done-preserved-in-Err g t c =
 -- a narrowed drawing
 pub loop-done-preserved : goal.loop-done-preserved
 loop-done-preserved g t c =
-    let k = g.row.P-Picture in
+    let k = g.P.Picture in
     let l = g.L.Link in
     let script = c.args.script.now in
     let i = c.loop-done.done in

@@ -9,13 +9,13 @@ use Rattle.screen.proofs.performs.perform.Goals as goal
 
 pub loop-done-init : goal.loop-done-init
 loop-done-init g c =
-    let k = g.row.P-Picture in
+    let k = g.P.Picture in
     let start = world g.L.Link c.args.screen.now c.args.pen.now [] in
     let fresh = c.in_ok-answers.ensures in (
       omega arith,
       reached k start start c.args.script.now [] (vec_items c.in_ok-answers.answers) 0
           (subst (λ a. Ran k start [] [] a 0 start) (sym fresh.items) (ran_none k start [])),
-      omega (arith, fresh.made.1),
+      omega (arith, fresh.capacity),
     )
 
 pub loop-done-preserved : goal.loop-done-preserved
@@ -26,13 +26,13 @@ loop-done-preserved g c =
     let within = c.until_end-done.ensures.within in
     let rest = length-between script i (length script) (omega arith) in (
       omega arith,
-      reached_inner g.row.P-Picture _ _ _ script [] _ _ i c.until_end-done.result c.loop-done-test.true c.loop-done.invariant.1 (c.until_end-done.ensures.ran []),
+      reached_inner g.P.Picture _ _ _ script [] _ _ i c.until_end-done.result c.loop-done-test.true c.loop-done.invariant.1 (c.until_end-done.ensures.ran []),
       omega arith,
     )
 
 pub loop-done-preserved-then-done-script : goal.loop-done-preserved-then-done-script
 loop-done-preserved-then-done-script g c =
-    let k = g.row.P-Picture in
+    let k = g.P.Picture in
     let script = c.args.script.now in
     let i = c.loop-done.done in
     let j = c.until_end-done.result in
@@ -53,6 +53,6 @@ loop-done-preserved-then-done-script g c =
 
 pub returns : goal.returns
 returns g c = record {
-  performed = performed g.row.P-Picture _ _ c.args.script.now (vec_items c.loop-done.answers) c.loop-done.done c.loop-done.invariant.1 c.loop-done-test.false;
+  performed = performed g.P.Picture _ _ c.args.script.now (vec_items c.loop-done.answers) c.loop-done.done c.loop-done.invariant.1 c.loop-done-test.false;
   no_memory = tt;
 }

@@ -5,7 +5,7 @@ use Rattle.screen.proofs.performs.perform.Given as goal
 abbrev pub invariant-loop-done : goal.invariant-loop-done
 invariant-loop-done g l =
     (l.done ≤ length l.script)
-    × Reached g.row.P-Picture (world g.L.Link l.initial.screen l.initial.pen []) l.script [] (vec_items l.answers) (world g.L.Link l.screen l.pen []) l.done
+    × Reached g.P.Picture (world g.L.Link l.initial.screen l.initial.pen []) l.script [] (vec_items l.answers) (world g.L.Link l.screen l.pen []) l.done
     × (vec_len l.answers + length l.script ≤ vec_capacity l.answers + l.done)
 
 abbrev pub decreases-loop-done : goal.decreases-loop-done

@@ -5,8 +5,8 @@ use Rattle.link.specs.Links.{send_after}
 use Rattle.marks.specs.Sending.{sent_all}
 use Rattle.screen.specs.Flushing.{setting, closing, complete}
 use Rattle.screen.specs.Screens.{shows}
-use Rattle.screen.proofs.Flush.{told_is}
-use Rattle.screen.proofs.Rest.{complete_is, rest_is}
+use Rattle.screen.proofs.Flush.{flush_told}
+use Rattle.screen.proofs.Rest.{complete_is, rest_told}
 use Rattle.screen.proofs.Settings.{setting_of}
 use Rattle.screen.proofs.screens.Screen.flush.Goals.{else-self-via-then-self+else-complete, else-self-via-else-self}
 use Rattle.screen.proofs.screens.Screen.flush.Goals as goal
@@ -16,9 +16,10 @@ returns-then-complete g c =
     let k = g.L.Link in
     let s = shows k c.args.self.now in
     let whole : complete s ≡ true = sym (complete_is s c.all_due.result c.complete.result c.complete.ensures c.all_due.ensures.sum) ∙ c.if-complete.true in
-    rest_is s (k.means c.open.new.self) (k.means c.close.new.self) c.args.n c.in-Ok.grant c.close.result
+    let told = rest_told s (k.means c.open.new.self) (k.means c.close.new.self) c.args.n c.in-Ok.grant c.close.result
     (and_from s.lit (complete s) c.if-self.true whole)
-    c.in-Ok.ensures.answer c.in-Ok.ensures.after c.close.ensures.answer c.close.ensures.after
+    c.in-Ok.ensures.answer c.in-Ok.ensures.after c.close.ensures.answer c.close.ensures.after in
+    record { step = told.0; window = told.1 }
 
 pub returns : goal.returns
 returns g c =
@@ -39,7 +40,7 @@ returns g c =
     let r1 = c.send_setting-offset.ensures in
     let remapped = setting_of o p0 0xA0 c.remap.result _ before.owed.remap remap _ _ c.remap.ensures (r0.sends, r0.left.0) in
     let offsets = setting_of p0 p1 0xA2 c.offset.result _ before.owed.offset offset _ _ c.offset.ensures (r1.sends, r1.left.0) in
-    told_is s t o p0 p1 p q
+    let told = flush_told s t o p0 p1 p q
     c.args.n c.in-Ok.grant c.send_setting-remap.result.1 c.send_setting-offset.result.1 c.sweep-left.result c.send.result c.close-2.result
     (elim c.else-self.branch [
       | else-self-via-then-self+else-complete w ↦ and_right s.lit (complete s) (sym (complete_is s w.all_due.result w.complete.result w.complete.ensures w.all_due.ensures.sum) ∙ w.if-complete.false)
@@ -54,4 +55,5 @@ returns g c =
     c.close-2.ensures.answer c.close-2.ensures.after
     refl refl (c.lit_after-self.ensures ∙ ap (λ b. s.lit || b) all)
     c.send_setting-remap.ensures.owed c.send_setting-offset.ensures.owed
-    c.complete-all.result c.all_due-rest.result c.told.result all rest c.told.ensures
+    c.complete-all.result c.all_due-rest.result c.told.result all rest c.told.ensures c.sweep-left.ensures.boxed in
+    record { step = told.0; window = told.1 }

@@ -6,8 +6,8 @@ use Rattle.runner.proofs.plans.planned.Goals as goal
 
 pub loop-line-init : goal.loop-line-init
 loop-line-init c = record {
-  calls_left = ap (λ x. x ++ calls_of c.into-iter-line-iterator.result.rest.items) (sym c.new-calls.ensures.items);
-  refused_left = ap (λ x. x ++ refusals_of c.into-iter-line-iterator.result.rest.items) (sym c.new-refused.ensures.items);
+  calls_left = ap (λ x. x ++ calls_of c.into_iter-line-iterator.result.rest.items) (sym c.new-calls.ensures.items);
+  refused_left = ap (λ x. x ++ refusals_of c.into_iter-line-iterator.result.rest.items) (sym c.new-refused.ensures.items);
 }
 
 pub loop-line-preserved : goal.loop-line-preserved
@@ -15,12 +15,12 @@ loop-line-preserved c =
     planning_refused _ _ _ _ _ _ c.in-Refused.refusal c.loop-line.invariant (c.in-Some.ensures.steps.0 ∙ ap (λ x. x ∷ c.next.new.self.rest.items) c.in-Refused.is)
     (search rules)
 
-pub loop-line-preserved-in-Continue·-branch-2 : goal.loop-line-preserved-in-Continue·-branch-2
-loop-line-preserved-in-Continue·-branch-2 c =
+pub loop-line-preserved-in-Continue-branch-2 : goal.loop-line-preserved-in-Continue-branch-2
+loop-line-preserved-in-Continue-branch-2 c =
     planning_made _ _ _ _ _ _ _ c.in-Made.call c.loop-line.invariant (c.in-Some.ensures.steps.0 ∙ ap (λ x. x ∷ c.next.new.self.rest.items) c.in-Made.is)
     (search rules) (search rules)
 
 pub returns : goal.returns
 returns c =
     let rest = c.loop-line.line-iterator.rest in
-    planned _ _ (vec_items c.args.lines) _ _ c.loop-line.invariant (nil_from_length rest.items (sym rest.ok.0 ∙ c.in-None.ensures.steps.0)) c.into-iter-line-iterator.ensures.into-iter-gives.0
+    planned _ _ (vec_items c.args.lines) _ _ c.loop-line.invariant (nil_from_length rest.items (sym rest.ok.0 ∙ c.in-None.ensures.steps.0)) c.into_iter-line-iterator.ensures.into_iter_gives.0

@@ -2,7 +2,7 @@
 use Rattle.std.proofs.Common.{◌≡◌, Ok, Err, Option, Result, sym, ap, ◌∙◌}
 use Rattle.refusal.specs.declared.refusals.Refusal.{Refusal}
 use Rattle.drawing.specs.declared.canvas.Canvas.{Canvas}
-use Rattle.drawing.specs.Book.{Book, painted, unless, entered, Draws}
+use Rattle.drawing.specs.Book.{Book, painted, unless, Draws}
 use Rattle.drawing.specs.Dots.{gray}
 use Rattle.drawing.specs.Drawing.{Paint, over, Painted}
 use Rattle.drawing.specs.Pens.{PenMeaning}

@@ -1,9 +1,9 @@
 -- Paints of other dots, one after the other, make one paint. So every loop that draws is carried.
-use Rattle.std.proofs.Common.{◌≡◌, ℕ, ◌+◌, ◌*◌, ◌<◌, ◌≤◌, Bool, true, false, cond, not, ◌&&◌, ◌||◌, eqb, ◌⊎◌, Some, None, Option, sym, ap, ◌∙◌, inl, inr, ⊎_elim, arith}
+use Rattle.std.proofs.Common.{◌≡◌, ℕ, ◌+◌, ◌*◌, ◌<◌, ◌≤◌, Bool, cond, ◌&&◌, ◌||◌, eqb, ◌⊎◌, Some, None, Option, sym, ◌∙◌, inl, inr, ⊎_elim, arith}
 use Rattle.std.proofs.lemmas.Bool.{cases_eq}
 use Rattle.std.proofs.lemmas.Bool.Decides.{nat_tests}
 use Rattle.drawing.specs.declared.canvas.Canvas.{Canvas}
-use Rattle.drawing.specs.Clips.{Side, holds}
+use Rattle.drawing.specs.Clips.{Side}
 use Rattle.drawing.specs.Dots.{gray, due, Put}
 use Rattle.drawing.specs.Drawing.{Paint, over, alters, Drawn, lined, ruled}
 

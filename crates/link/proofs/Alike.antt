@@ -1,15 +1,15 @@
 -- What was done on a link is what its controller met, and what a listing link lists.
-use Rattle.std.proofs.Common.{◌≡◌, List, [], ◌∷◌, ◌++◌, sym, refl, ap, ◌∙◌, subst, append_assoc}
+use Rattle.std.proofs.Common.{◌≡◌, List, [], ◌∷◌, ◌++◌, sym, ap, ◌∙◌, subst, append_assoc}
 use Rattle.std.proofs.lemmas.List.{append-nil}
-use Rattle.ssd1329.specs.Chip.{Chip, blank}
+use Rattle.ssd1329.specs.Chip.{blank}
 use Rattle.listing.specs.declared.record.Record.{Record}
 use Rattle.listing.specs.declared.record.Record.TheVariants.{Open, Sent, Close}
 use Rattle.listing.specs.Listing.{Lists}
-use Rattle.listing.specs.Replay.{met, replayed, Replayed}
+use Rattle.listing.specs.Replay.{met, replayed}
 use Rattle.listing.proofs.Back.{unique}
 use Rattle.link.specs.declared.recorder.ListingLink.{ListingLink}
 use Rattle.link.specs.Links.{LinkMeaning}
-use Rattle.link.specs.Listed.{text_of, records_of, listing_meaning}
+use Rattle.link.specs.Listed.{text_of, records_of}
 use Rattle.link.specs.Lives.{Did, Calls, SameCalls, ListingCalls, ListedWasSent}
 
 -- one call is one record to the controller

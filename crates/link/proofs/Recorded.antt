@@ -1,19 +1,19 @@
 -- What one record more makes of what a listing link means.
-use Rattle.std.proofs.Common.{◌≡◌, ℕ, ◌+◌, ◌-◌, ◌*◌, ◌/◌, ◌<◌, ◌≤◌, min, Bool, true, false, cond, eqb, List, [], ◌∷◌, ◌++◌, length, take, is_some, Some, None, Ok, vec_items, vec_len, Option, Vec, sym, refl, ap, ◌∙◌, subst, arith}
+use Rattle.std.proofs.Common.{◌≡◌, ℕ, ◌+◌, ◌-◌, ◌/◌, ◌≤◌, min, true, false, eqb, List, [], ◌∷◌, ◌++◌, length, take, is_some, Some, None, Ok, vec_items, vec_len, Option, Vec, sym, refl, ap, ◌∙◌, subst, arith}
 use Rattle.std.proofs.lemmas.List.{with_items_is}
 use Rattle.std.proofs.lemmas.Bool.{cond-false, ne_eqb}
 use Rattle.std.proofs.lemmas.Bool.Decides.{nat_tests}
 use Rattle.std.specs.Vec.{with_items}
 use Rattle.ssd1329.specs.declared.transfer.Transfer.{Transfer}
-use Rattle.ssd1329.specs.Chip.{Chip, blank, dropped}
+use Rattle.ssd1329.specs.Chip.{Chip, blank}
 use Rattle.ssd1329.specs.RowText.{Put}
 use Rattle.ssd1329.proofs.Texts.{put_front}
 use Rattle.listing.specs.declared.record.Record.{Record}
 use Rattle.listing.specs.declared.record.Record.TheVariants.{Open, Sent, Close}
-use Rattle.listing.specs.Listing.{line, wide, allowed, slot_then, slot_after, less}
-use Rattle.listing.specs.Replay.{met, replayed}
+use Rattle.listing.specs.Listing.{line, wide, allowed, slot_after, less}
+use Rattle.listing.specs.Replay.{replayed}
 use Rattle.listing.specs.Writing.{Written}
-use Rattle.listing.proofs.OneLine.{line_long, after_push}
+use Rattle.listing.proofs.OneLine.{after_push}
 use Rattle.listing.proofs.Whole.{replayed_push}
 use Rattle.listing.proofs.Written.{Kept, Grown, grown}
 use Rattle.link.specs.declared.recorder.ListingLink.{ListingLink}

@@ -1,8 +1,8 @@
 -- A listing link keeps the laws of links, by the facts that its type keeps.
-use Rattle.std.specs.Prelude.{◌≡◌, ℕ, ◌+◌, ◌-◌, ◌/◌, ◌≤◌, Bool, true, false, cond, List, [], ◌∷◌, length, Some, None, vec_len, Option, nat_le, refl}
+use Rattle.std.specs.Prelude.{◌≡◌, ℕ, ◌+◌, ◌-◌, ◌≤◌, Bool, true, false, cond, List, [], ◌∷◌, length, Some, None, vec_len, Option, nat_le, refl}
 use Rattle.std.proofs.Common.{sym, ap, subst, ◌∙◌, arith}
 use Rattle.std.proofs.lemmas.Bool.{leb-true}
-use Rattle.ssd1329.specs.Chip.{Chip, reset, blank, dropped}
+use Rattle.ssd1329.specs.Chip.{Chip, reset, blank}
 use Rattle.ssd1329.proofs.Fresh.{dropped_blank, blank_reset, blank_sized}
 use Rattle.ssd1329.proofs.Sized.{step_sized, dropped_memory}
 use Rattle.listing.specs.declared.record.Record.{Record}

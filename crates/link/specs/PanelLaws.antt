@@ -1,7 +1,6 @@
 -- A panel keeps the laws of links, by the facts that its type keeps.
-use Rattle.std.specs.Prelude.{◌≡◌, true, length}
+use Rattle.std.specs.Prelude.{◌≡◌, length}
 use Rattle.std.proofs.Common.{sym, ◌∙◌}
-use Rattle.ssd1329.specs.Meaning.{chip}
 use Rattle.ssd1329.proofs.Fresh.{reset_is, blank_sized}
 use Rattle.link.specs.declared.panel.seat.Seat.{Seat}
 use Rattle.link.specs.declared.panel.seat.Seat.TheVariants.{Fit, Unfit}

@@ -1,5 +1,5 @@
 -- What a panel means, fresh and later. Assumes nothing.
-use Rattle.std.specs.Prelude.{◌≡◌, ℕ, true, false, cond, List, length, None, vec_items, ◌==◌}
+use Rattle.std.specs.Prelude.{◌≡◌, ℕ, cond, List, length, None, vec_items, ◌==◌}
 use Rattle.ssd1329.specs.Chip.{Chip, reset}
 use Rattle.ssd1329.specs.Meaning.{chip}
 use Rattle.ssd1329.specs.Chip.{blank}

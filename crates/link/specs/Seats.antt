@@ -1,6 +1,6 @@
 -- What a panel sits on. Over memory that is not a controller's, the panel means a controller at reset that takes nothing.
-use Rattle.std.specs.Prelude.{Bool, true, false, replicate}
-use Rattle.ssd1329.specs.Chip.{Chip, reset}
+use Rattle.std.specs.Prelude.{Bool, true, false}
+use Rattle.ssd1329.specs.Chip.{Chip}
 use Rattle.ssd1329.specs.Meaning.{chip}
 use Rattle.ssd1329.specs.Chip.{blank}
 use Rattle.link.specs.declared.panel.seat.Seat.{Seat}

@@ -1,10 +1,10 @@
 -- A text that was read to its end.
-use Rattle.std.proofs.Common.{◌≡◌, ℕ, ◌≤◌, ◌⊎◌, List, [], ◌∷◌, ◌++◌, length, take, sym, refl, ap, ◌∙◌, ⊎_elim, arith}
+use Rattle.std.proofs.Common.{◌≡◌, ℕ, List, [], ◌∷◌, ◌++◌, length, take, sym, refl, ap, ◌∙◌, ⊎_elim, arith}
 use Rattle.std.proofs.lemmas.List.{take_all}
 use Rattle.ssd1329.specs.Chip.{Chip}
 use Rattle.listing.specs.declared.record.Record.{Record}
 use Rattle.listing.specs.declared.reader.Reader.{Reader}
-use Rattle.listing.specs.Listing.{Lists, RefusedAt}
+use Rattle.listing.specs.Listing.{RefusedAt}
 use Rattle.listing.specs.ReadBack.{listed, lines}
 use Rattle.listing.specs.Reading.{Ended}
 use Rattle.listing.specs.Replay.{met, replayed, Replayed, Listing}

@@ -1,5 +1,5 @@
 -- The laws of listings: what a text lists, and where it is bad, is no matter of choice; writing and reading undo each other.
-use Rattle.std.specs.Prelude.{◌≡◌, ℕ, ◌≤◌, List, [], ◌∷◌, ◌++◌, drop}
+use Rattle.std.specs.Prelude.{◌≡◌, ℕ, List, ◌++◌, drop}
 use Rattle.listing.specs.declared.record.Record.{Record}
 use Rattle.listing.specs.Listing.{line, wide, text, Writable, Begins, Lists, BadAt}
 use Rattle.listing.specs.ReadBack.{first, listed}

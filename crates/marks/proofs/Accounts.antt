@@ -55,7 +55,7 @@ module _ (ws : List ℕ) (y a m v len : ℕ) (inside : y < length ws) (first : F
       let d = cut_due w v a len m first clear l in
       let has = first_runs w a len first in
       let some_left = get_or-le-sum_by cost (set ws y v) y 0 (simp length-set inside) in
-      let some-cost : cost v ≤ worth (set ws y v) = rw (get_or-set_same ws y v 0 inside) at some_left in
+      let some_cost : cost v ≤ worth (set ws y v) = rw (get_or-set_same ws y v 0 inside) at some_left in
       (omega (arith, sum_by-set cost ws y v 0 inside, falls), omega arith)
 
 -- ---- the lines of a block
@@ -72,8 +72,8 @@ pub block_falls : (ws : List ℕ) (y a m h : ℕ) (vs : List ℕ) → Clears ws 
     → worth vs + m * h + 6 * h ≡ worth ws
 block_falls ws y a m zero vs e whole = omega (arith, ap worth e, mul-zero m)
 block_falls ws y a m (suc h) vs (v, inside, f, more) whole =
-    let zero-on : y + 0 ≡ y = omega arith in
-    let first : First (get_or ws y 0) a m = subst (λ (i : ℕ). First (get_or ws i 0) a m) zero-on (whole 0 (omega arith)) in
+    let zero_on : y + 0 ≡ y = omega arith in
+    let first : First (get_or ws y 0) a m = subst (λ (i : ℕ). First (get_or ws i 0) a m) zero_on (whole 0 (omega arith)) in
     let rest = block_falls (set ws y v) (y + 1) a m h vs more (λ k l.
     let e : y + (k + 1) ≡ y + 1 + k = omega arith in
     let other : get_or (set ws y v) (y + 1 + k) 0 ≡ get_or ws (y + 1 + k) 0 = get_or-set_other ws y (y + 1 + k) v 0 (omega arith) in

@@ -1,5 +1,5 @@
 -- The controller by what it is once the byte that it holds is stored. No other file opens `step`.
-use Rattle.std.proofs.Common.{◌≡◌, ℕ, ◌+◌, ◌≤◌, Bool, true, false, ◌&&◌, leb, List, [], ◌∷◌, ◌++◌, map, length, set, Some, None, Option, sym, refl, ap, ◌∙◌, subst}
+use Rattle.std.proofs.Common.{◌≡◌, ℕ, ◌≤◌, Bool, true, false, ◌&&◌, leb, List, [], ◌∷◌, ◌++◌, map, length, set, Some, None, Option, sym, refl, ap, ◌∙◌, subst}
 use Rattle.std.proofs.lemmas.Bool.{le-leb, cond-true, and_from}
 use Rattle.ssd1329.specs.declared.controller.Awaited.{Awaited}
 use Rattle.ssd1329.specs.declared.controller.Awaited.TheVariants.{Opcode}

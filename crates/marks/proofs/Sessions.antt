@@ -32,18 +32,18 @@ pub session : (m o p q : LinkMeaning) (n left : ℕ) (ts : List Transfer) (r : R
     → r ≡ close_answer p.slot → CloseAfter p r q → Session m n left ts q
 session m o p q n left ts r answer opened-to enough sends closed after =
     let was = opened m n left answer in
-    let p-is : p ≡ sent_all (open_after m (Ok left)) ts = sends ∙ ap (λ x. sent_all x ts) opened-to in
-    let ok : r ≡ Ok tt = closed ∙ closes p.slot (length ts) left (ap (λ x. x.slot) p-is) in
+    let p_is : p ≡ sent_all (open_after m (Ok left)) ts = sends ∙ ap (λ x. sent_all x ts) opened-to in
+    let ok : r ≡ Ok tt = closed ∙ closes p.slot (length ts) left (ap (λ x. x.slot) p_is) in
     let shut : Closed p q = subst (λ x. CloseAfter p x q) ok after in
     let fits = was.1 in
-    let room-is : p.room ≡ m.room - length ts = ap (λ x. x.room) p-is in
-    let room-less = shut.room_falls in
+    let room_is : p.room ≡ m.room - length ts = ap (λ x. x.room) p_is in
+    let room_less = shut.room_falls in
     record {
       opens = sym answer;
       within = enough;
       was_shut = was.0;
-      chip = shut.drops ∙ ap (λ x. dropped x.chip) p-is;
+      chip = shut.drops ∙ ap (λ x. dropped x.chip) p_is;
       slot = shut.shut;
-      taken = shut.taken_stays ∙ ap (λ x. x.taken) p-is;
+      taken = shut.taken_stays ∙ ap (λ x. x.taken) p_is;
       room = omega arith;
     }

@@ -135,7 +135,7 @@ module _ (vs : List ℕ) (left y a len m h : ℕ) (c : Chosen vs left y a len m 
     -- each byte of the block was due
     pub chosen_falls : bytes_due us < bytes_due vs
     chosen_falls =
-        let some-area : m * 1 ≤ m * h = mul-le-mul_left m c.high in
+        let some_area : m * 1 ≤ m * h = mul-le-mul_left m c.high in
         omega (arith, clears_bytes vs y a m h us clears, chosen_wide)
 
     -- each transfer is for a byte or a run that goes; or the run is cut, and one transfer is left

@@ -1,5 +1,5 @@
 -- A fresh screen, and what was performed on it.
-use Rattle.std.proofs.Common.{◌≡◌, List, [], Option, sym, refl, ap, ◌∙◌, subst}
+use Rattle.std.proofs.Common.{◌≡◌, List, [], Option, ap, ◌∙◌, subst}
 use Rattle.refusal.specs.declared.refusals.Refusal.{Refusal}
 use Rattle.ssd1329.specs.Glass.{Wires}
 use Rattle.drawing.specs.Pens.{PenMeaning, fresh_pen}

@@ -5,7 +5,7 @@ use Rattle.ssd1329.specs.Glass.{Wires}
 use Rattle.drawing.specs.Pens.{fresh_pen}
 use Rattle.link.specs.Links.{LinkMeaning}
 use Rattle.screen.specs.declared.scripts.Answer.{Answer}
-use Rattle.screen.specs.Lives.{World, Event, Life}
+use Rattle.screen.specs.Lives.{World, Life}
 use Rattle.screen.specs.Screens.{fresh_screen}
 use Rattle.screen.specs.Scripts.{Performed}
 use Rattle.script.specs.declared.script.Line.{Line}

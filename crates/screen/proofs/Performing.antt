@@ -1,5 +1,5 @@
 -- A script goes on with a life, and keeps it faithful.
-use Rattle.std.proofs.Common.{◌≡◌, ℕ, ◌≤◌, List, [], ◌∷◌, ◌++◌, length, Ok, Err, sym, refl, ap, subst}
+use Rattle.std.proofs.Common.{ℕ, ◌≤◌, List, [], ◌∷◌, ◌++◌, length, Ok, Err, sym, ap, subst}
 use Rattle.std.proofs.lemmas.List.{take_all}
 use Rattle.picture.specs.declared.pictures.Picture.{Ghosts as PictureGhosts}
 use Rattle.drawing.specs.declared.canvas.Canvas.{Canvas}

@@ -1,13 +1,13 @@
 -- A flush of a screen that has nothing left to send.
-use Rattle.std.proofs.Common.{◌≡◌, ℕ, ◌+◌, ◌-◌, ◌≤◌, Bool, true, false, cond, not, ◌&&◌, ◌||◌, eqb, ltb, [], length, Ok, Result, sym, refl, ap, ◌∙◌, subst, inl, arith}
+use Rattle.std.proofs.Common.{◌≡◌, ℕ, Bool, true, false, not, ◌&&◌, eqb, ltb, [], length, Ok, Result, sym, refl, ap, ◌∙◌, inl, arith}
 use Rattle.std.proofs.lemmas.Bool.{cond-true, and_parts, and_left, eqb-true, or_left, not-true}
 use Rattle.refusal.specs.declared.refusals.Refusal.{Refusal}
 use Rattle.link.specs.Links.{LinkMeaning, open_answer, open_after, close_answer, CloseAfter}
-use Rattle.marks.specs.Blocks.{bytes_due, worth, traffic}
+use Rattle.marks.specs.Blocks.{bytes_due}
 use Rattle.marks.specs.Sending.{sent_all}
 use Rattle.marks.proofs.Sends.{sent_none}
 use Rattle.marks.proofs.Sessions.{session}
-use Rattle.screen.specs.Flushing.{remap_sent, offset_sent, complete, closing, sending, owing, Flushed, Done, InOneWindow}
+use Rattle.screen.specs.Flushing.{complete, sending, Done, InOneWindow}
 use Rattle.screen.specs.Screens.{ScreenMeaning}
 
 abbrev with_link : ScreenMeaning → LinkMeaning → ScreenMeaning

@@ -1,11 +1,11 @@
 -- A transfer keeps the memory's length.
-use Rattle.std.proofs.Common.{◌≡◌, ℕ, Bool, true, false, cond, ◌&&◌, eqb, leb, List, [], ◌∷◌, length, Some, None, Option, sym, refl, ap, ◌∙◌, length-set}
+use Rattle.std.proofs.Common.{◌≡◌, ℕ, Bool, true, false, cond, ◌&&◌, eqb, leb, List, length, Some, None, Option, refl, ap, ◌∙◌, length-set}
 use Rattle.ssd1329.specs.declared.controller.Awaited.{Awaited}
 use Rattle.ssd1329.specs.declared.controller.Awaited.TheVariants.{Opcode, FirstColumn, LastColumn, FirstLine, LastLine, Remap, StartLine, Offset, Mux}
 use Rattle.ssd1329.specs.declared.transfer.Transfer.{Transfer}
 use Rattle.ssd1329.specs.declared.transfer.Transfer.TheVariants.{Command, Data}
 use Rattle.ssd1329.specs.Remap.{legal}
-use Rattle.ssd1329.specs.Chip.{Chip, lost, put, stored, opcode_met, command_met, data_met, met, step, run, dropped}
+use Rattle.ssd1329.specs.Chip.{Chip, lost, put, stored, opcode_met, command_met, data_met, met, step, dropped}
 
 -- either way the memory is m
 either : (b : Bool) (x y : Chip) (m : List ℕ) → x.memory ≡ m → y.memory ≡ m → (cond b x y).memory ≡ m

@@ -3,9 +3,9 @@ use Rattle.std.proofs.Common.{◌≡◌, ℕ, ◌+◌, ◌-◌, ◌*◌, ◌/◌
 use Rattle.std.proofs.lemmas.Bool.{le-ltb}
 use Rattle.std.proofs.lemmas.Bool.Decides.{nat_tests}
 use Rattle.ssd1329.specs.Remap.{has}
-use Rattle.ssd1329.specs.Chip.{Chip, address}
-use Rattle.ssd1329.specs.Glass.{Wires, combed, half, segment_of, glass}
-use Rattle.ssd1329.specs.Wiring.{settings_for, half_for, EveryWiringShowsTheMemory}
+use Rattle.ssd1329.specs.Chip.{address}
+use Rattle.ssd1329.specs.Glass.{combed, half, segment_of, glass}
+use Rattle.ssd1329.specs.Wiring.{EveryWiringShowsTheMemory}
 
 -- the bits of the re-map byte that a wiring needs are its marks
 abbrev marked : Bool → Bool → Bool → ℕ → Bool

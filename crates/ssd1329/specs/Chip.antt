@@ -1,5 +1,5 @@
 -- The controller as a pure machine: its state, and what a transfer does to it. Assumes nothing.
-use Rattle.std.specs.Prelude.{ℕ, ◌+◌, ◌*◌, ◌/◌, ◌%◌, Bool, true, false, cond, ◌&&◌, List, [], ◌∷◌, set, replicate, Some, None, Option, ◌==◌, nat_le, slice_set}
+use Rattle.std.specs.Prelude.{ℕ, ◌+◌, ◌*◌, ◌/◌, ◌%◌, Bool, true, false, cond, ◌&&◌, List, [], ◌∷◌, replicate, Some, None, Option, ◌==◌, nat_le, slice_set}
 use Rattle.ssd1329.specs.declared.controller.Awaited.{Awaited}
 use Rattle.ssd1329.specs.declared.controller.Awaited.TheVariants.{Opcode, FirstColumn, LastColumn, FirstLine, LastLine, Remap, StartLine, Offset, Mux}
 use Rattle.ssd1329.specs.declared.transfer.Transfer.{Transfer}

@@ -1,5 +1,5 @@
 -- The settings that a wiring needs, and the theorem that justifies them. Assumes nothing.
-use Rattle.std.specs.Prelude.{◌≡◌, ℕ, ◌+◌, ◌-◌, ◌/◌, ◌%◌, ◌<◌, Bool, true, cond, slice_index}
+use Rattle.std.specs.Prelude.{◌≡◌, ℕ, ◌+◌, ◌-◌, ◌/◌, ◌%◌, ◌<◌, true, cond, slice_index}
 use Rattle.ssd1329.specs.Settings.{Settings}
 use Rattle.ssd1329.specs.Chip.{Chip, address}
 use Rattle.ssd1329.specs.Glass.{Wires, half, lit, glass}

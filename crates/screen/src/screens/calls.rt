@@ -1,5 +1,5 @@
 // The drawing calls of a screen, each with a pen. They leave the link alone.
-ghost use Rattle.std.specs.Prelude.{◌≡◌, ◌&&◌, ltb, if◌then◌else◌, Ok, Err, nat_lt};
+ghost use Rattle.std.specs.Prelude.{◌≡◌, ◌&&◌, if◌then◌else◌, Ok, Err, nat_lt};
 ghost use Rattle.refusal.specs.declared.refusals.Refusal.TheVariants.{Position};
 ghost use Rattle.drawing.specs.Book.{dots, bars, places};
 ghost use Rattle.drawing.specs.Dots.{gray};
@@ -49,7 +49,7 @@ impl<L: Link> Screen<L> {
 
     // The gray that is drawn at (x, y); a position above 127 is refused.
     pub fn gray(&self, x: u32, y: u32) -> Result<u8, Refusal>
-        ensures { result ≡ (if ltb x 128 && nat_lt y 128 then Ok (gray self.now.canvas x y) else Err Position) }
+        ensures { result ≡ (if nat_lt x 128 && nat_lt y 128 then Ok (gray self.now.canvas x y) else Err Position) }
     {
         self.canvas.gray(x, y)
     }

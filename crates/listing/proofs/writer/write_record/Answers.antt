@@ -1,4 +1,4 @@
-use Rattle.std.proofs.Common.{◌+◌, ◌-◌, length, arith, rules}
+use Rattle.std.proofs.Common.{◌+◌, ◌-◌, arith, rules}
 use Rattle.ssd1329.proofs.Texts.{put_written}
 use Rattle.listing.specs.Listing.{line}
 use Rattle.listing.proofs.OneLine.{line_long}

@@ -1,5 +1,4 @@
-use Rattle.std.proofs.Common.{◌≡◌, length, ap, arith}
-use Rattle.screen.specs.Flushing.{setting}
+use Rattle.std.proofs.Common.{length, ap, arith}
 use Rattle.screen.proofs.Settings.{no_setting, setting_unsent, still_owed}
 use Rattle.screen.proofs.flushes.send_setting.Goals as goal
 

@@ -1,6 +1,5 @@
-use Rattle.std.proofs.Common.{◌≡◌, ℕ, ◌+◌, ◌-◌, ◌*◌, ◌<◌, [], ◌∷◌, map, length, take, drop, sym, refl, ap, ◌∙◌, subst, arith, length-drop, length-take, rules}
+use Rattle.std.proofs.Common.{◌≡◌, ◌+◌, ◌-◌, ◌*◌, ◌<◌, map, length, take, drop, ap, ◌∙◌, arith, length-drop, length-take, rules}
 use Rattle.ssd1329.specs.declared.transfer.Transfer.TheVariants.{Data}
-use Rattle.ssd1329.specs.Chip.{address}
 use Rattle.marks.specs.Blocks.{Block, window}
 use Rattle.marks.specs.Sending.{Enough, sent_all}
 use Rattle.marks.proofs.Accounts.{words_length}

@@ -1,4 +1,4 @@
-use Rattle.std.proofs.Common.{◌+◌, ◌-◌, ◌≤◌}
+use Rattle.std.proofs.Common.{◌+◌, ◌-◌}
 use Rattle.marks.specs.Sending.{Sweeping, InOneBlock}
 use Rattle.screen.proofs.sweeps.sweep.Given as goal
 

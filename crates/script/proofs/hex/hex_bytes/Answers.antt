@@ -1,7 +1,7 @@
 use Rattle.std.proofs.Common.{◌≡◌, [], ◌∷◌, ◌++◌, drop, vec_items, sym, ap, ◌∙◌, arith, rules}
 use Rattle.std.proofs.lemmas.List.{take_rest}
 use Rattle.std.proofs.lemmas.Bool.Decides.{nat_tests}
-use Rattle.script.specs.Hex.{octet, bytes_of_hex}
+use Rattle.script.specs.Hex.{bytes_of_hex}
 use Rattle.script.proofs.Octets.{bytes_and, pair_on, pair_stops, lone_stops, pairs_end}
 use Rattle.script.proofs.hex.hex_bytes.Goals as goal
 

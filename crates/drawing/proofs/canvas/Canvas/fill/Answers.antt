@@ -1,4 +1,4 @@
-use Rattle.std.proofs.Common.{ℕ, ◌≤◌, arith}
+use Rattle.std.proofs.Common.{◌≤◌, arith}
 use Rattle.drawing.specs.Clips.{span_side}
 use Rattle.drawing.specs.Drawing.{Paint, placed}
 use Rattle.drawing.proofs.Steps.{rule_more}

@@ -1,4 +1,4 @@
-use Rattle.std.proofs.Common.{◌≡◌, ℕ, ◌+◌, ◌≤◌, sym, ◌∙◌, subst, arith}
+use Rattle.std.proofs.Common.{◌≤◌, sym, ◌∙◌, arith}
 use Rattle.drawing.specs.Drawing.{Paint, placed}
 use Rattle.drawing.proofs.Steps.{line_some, line_none}
 use Rattle.drawing.proofs.canvas.Canvas.line.Goals as goal

@@ -1,8 +1,7 @@
 use Rattle.std.proofs.Common.{refl, arith}
 use Rattle.listing.specs.Listing.{text, fits, slot_after}
 use Rattle.listing.specs.ReadBack.{listed, lines}
-use Rattle.listing.specs.Replay.{replayed}
-use Rattle.link.specs.Space.{capacity, transfers}
+use Rattle.link.specs.Space.{transfers}
 use Rattle.link.proofs.Recorded.{nothing_recorded}
 use Rattle.link.proofs.recorder.ListingLink.new.Goals as goal
 

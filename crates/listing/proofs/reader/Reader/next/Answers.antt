@@ -3,7 +3,7 @@ use Rattle.listing.specs.declared.reader.Reader.{Reader}
 use Rattle.listing.proofs.OneLine.{not_followed, wide_pos}
 use Rattle.listing.proofs.Stuck.{no_line, barred_line}
 use Rattle.listing.proofs.Written.{Kept, kept_lists}
-use Rattle.listing.proofs.Advance.{On, line_on}
+use Rattle.listing.proofs.Advance.{line_on}
 use Rattle.listing.proofs.reader.Reader.next.Goals as goal
 
 kept : (x : Reader) → Kept (take x.at x.text.now) x.slot

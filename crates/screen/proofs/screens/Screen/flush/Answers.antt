@@ -1,9 +1,8 @@
-use Rattle.std.proofs.Common.{◌≡◌, ◌+◌, ◌-◌, ◌<◌, ◌≤◌, Bool, true, false, not, ◌&&◌, ◌||◌, sym, refl, ap, ◌∙◌}
+use Rattle.std.proofs.Common.{◌≡◌, true, ◌||◌, sym, refl, ap, ◌∙◌}
 use Rattle.std.proofs.lemmas.Bool.{and_from, and_left, and_right}
 use Rattle.ssd1329.specs.declared.transfer.Transfer.TheVariants.{Command}
 use Rattle.link.specs.Links.{send_after}
-use Rattle.marks.specs.Sending.{sent_all}
-use Rattle.screen.specs.Flushing.{setting, closing, complete}
+use Rattle.screen.specs.Flushing.{closing, complete}
 use Rattle.screen.specs.Screens.{shows}
 use Rattle.screen.proofs.Flush.{flush_told}
 use Rattle.screen.proofs.Rest.{complete_is, rest_told}

@@ -1,4 +1,4 @@
-use Rattle.std.proofs.Common.{◌≡◌, sym, ap, ◌∙◌, subst}
+use Rattle.std.proofs.Common.{sym, ap, ◌∙◌, subst}
 use Rattle.listing.specs.declared.record.Record.TheVariants.{Close}
 use Rattle.link.specs.Links.{close_answer, Closed}
 use Rattle.link.specs.Listed.{records_of, free_of, listing_meaning}

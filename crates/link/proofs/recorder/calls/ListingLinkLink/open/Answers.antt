@@ -1,4 +1,4 @@
-use Rattle.std.proofs.Common.{◌≡◌, min, sym, ap, ◌∙◌, arith}
+use Rattle.std.proofs.Common.{min, sym, ap, ◌∙◌, arith}
 use Rattle.listing.specs.declared.record.Record.TheVariants.{Open}
 use Rattle.link.specs.Listed.{records_of, free_of, listing_meaning}
 use Rattle.link.proofs.Recorded.{listed_then, opened_recorded, open_answers, none_left}

@@ -99,6 +99,23 @@ sweep_none m canvas ws grant h = record {
   pays = inl (omega arith);
 }
 
+-- a line with nothing due is passed
+pub sweep_pass : (o : LinkMeaning) (canvas ws : List ℕ) (grant : ℕ) (n : LinkMeaning) (vs : List ℕ) (left y : ℕ) → Sweeping o canvas ws grant n vs left y → get_or vs y 0 ≡ 0
+    → Sweeping o canvas ws grant n vs left (y + 1)
+sweep_pass o canvas ws grant n vs left y h z = record {
+  blocks = h.blocks;
+  covers = h.covers;
+  sends = h.sends;
+  spent = h.spent;
+  reserve = h.reserve;
+  long = h.long;
+  passed = λ u l. ⊎_elim (λ (i : u < y). h.passed u i) (λ (i : y ≤ u). let e : u ≡ y = omega arith in ap (λ k. get_or vs k 0) e ∙ z) (cases_lt u y);
+  fewer = h.fewer;
+  fell = h.fell;
+  pays = h.pays;
+}
+
+-- nothing is sent yet
 pub box_none : (ws : List ℕ) (grant : ℕ) → InOneBlock ws grant ws grant
 box_none ws grant = λ b box room. inl (refl, refl)
 

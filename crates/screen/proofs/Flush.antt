@@ -137,7 +137,7 @@ module _ (s t : ScreenMeaning) (o p0 p1 p q : LinkMeaning) (n grant free rest le
   window_is one told due (Err (by.Refused e)) so = tt
   window_is one told due (Err (by.LeftOver l)) so = in_one_window one l.count so.1
 
-  told_is : (told : Bool) (due : ℕ) (r : Result ℕ FlushFault) → told ≡ complete t → due ≡ bytes_due t.canvas.due
+  pub told_is : (told : Bool) (due : ℕ) (r : Result ℕ FlushFault) → told ≡ complete t → due ≡ bytes_due t.canvas.due
       → Told told (grant - left + 1) due t.canvas.due r → FlushStep s n r t
   unfolding flush_is
   told_is told due (Ok m) is due_is so = record { flushed = flush_is; all = sym is ∙ so.0; counted = so.1 ∙ counted }

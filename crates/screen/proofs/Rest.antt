@@ -52,7 +52,7 @@ module _ (s : ScreenMeaning) (o l : LinkMeaning) (n grant : ℕ) (cr : Result (U
   short : length (sending s [] t) ≡ 0
   short = ap length nothing
 
-  rest_is : Done s n 0 (with_link s l)
+  pub rest_is : Done s n 0 (with_link s l)
   rest_is = record {
     flushed = record {
       grant = grant;

@@ -4,9 +4,8 @@
 usage: python3 tools/respell.py [--dry]   at the top of the repository
 
 A name counts that specs/ or proofs/ define and that has a hyphen inside: a definition, a record, a field or a lemma.
-It is turned in specs/, proofs/ and the ghost parts of src/, as a whole word; in comments it is turned too, where it
-stands between other marks of a name. Goals of the toolchain (`goal.returns-in-Ok`) and names of its library are not
-the repository's own and stay. Functions, strings, inputs and outputs are left alone, and so are must-fail edits.
+It is turned in specs/, proofs/ and the ghost parts of src/, as a whole word; comments are left alone.
+Goals of the toolchain (`goal.returns-in-Ok`) and names of its library are not the repository's own and stay. Functions, strings, inputs and outputs are left alone, and so are must-fail edits.
 """
 import os
 import re

@@ -206,7 +206,7 @@ module _ (o : LinkMeaning) (canvas ws : List ℕ) (grant : ℕ) (n n' : LinkMean
       (chosen_pays vs left y a len m h c us clears)
 
   -- where the bytes of one block were due, this is it: it is the first, and takes them all
-  pub box_more : InOneBlock ws grant vs left → EndsThere vs y a m ((left - 7) / m) h → InOneBlock ws grant us (left - (6 + m * h))
+  box_more : InOneBlock ws grant vs left → EndsThere vs y a m ((left - 7) / m) h → InOneBlock ws grant us (left - (6 + m * h))
   box_more one ends d box room = ⊎_elim
       (λ (f : (left ≡ grant) × (vs ≡ ws)).
       let here : Boxed vs d = subst (λ (x : List ℕ). Boxed x d) (sym f.1) box in
@@ -232,3 +232,8 @@ module _ (o : LinkMeaning) (canvas ws : List ℕ) (grant : ℕ) (n n' : LinkMean
         fell = λ _. omega (arith, falls, i.fewer);
         pays = pays_more;
       }
+
+  -- both of what a block more leaves
+  pub block_more : InOneBlock ws grant vs left → EndsThere vs y a m ((left - 7) / m) h
+      → Sweeping o canvas ws grant n' us (left - (6 + m * h)) y × InOneBlock ws grant us (left - (6 + m * h))
+  block_more one ends = (sweep_more, box_more one ends)

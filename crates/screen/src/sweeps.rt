@@ -11,7 +11,8 @@ use marks::{Run, cleared, due_bytes, first_run};
 // How many lines from y on, at most `most`, have that first run, down to the first that does not. Line y itself is not looked at.
 fn height_of(due: &[u64; 128], y: u8, run: Run, most: u32) -> u8
     requires { (y < 128) × (0 < most) }
-    ensures tall { (0 < result) × (result ≤ most) × (y + result ≤ 128) × ((k : ℕ) → 0 < k → k < result → First (slice_index due.now (y + k)) run.start run.len) }
+    ensures tall { (0 < result) × (result ≤ most) × (y + result ≤ 128)
+        × ((k : ℕ) → 0 < k → k < result → First (slice_index due.now (y + k)) run.start run.len) }
     ensures ends { EndsThere due.now y run.start run.len most result }
 {
     let mut h = 1u8;

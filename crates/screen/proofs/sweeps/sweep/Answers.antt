@@ -1,7 +1,7 @@
 use Rattle.std.proofs.Common.{◌≡◌, length, arith, rules}
 use Rattle.marks.specs.Blocks.{traffic}
 use Rattle.marks.proofs.Sends.{enough_then}
-use Rattle.marks.proofs.Sweep.{sweep_none, box_none, sweep_more, box_more, chosen_fits, chosen_shaped, chosen_marked}
+use Rattle.marks.proofs.Sweep.{sweep_none, box_none, block_more, chosen_fits, chosen_shaped, chosen_marked}
 use Rattle.screen.proofs.sweeps.sweep.Goals as goal
 
 pub loop-y-init : goal.loop-y-init
@@ -28,9 +28,7 @@ loop-y-preserved g c =
     let wide : length c.args.canvas.now ≡ 8192 = search rules in
     let lines : length c.args.due.now ≡ 128 = search rules in
     let inv = c.loop-y.invariant in
-    let chosen = c.choose-m.ensures in (
-      sweep_more (k.means c.args.link.now) c.args.canvas.now c.args.due.now c.args.grant (k.means c.loop-y.link) (k.means c.send_block.new.link) c.loop-y.due c.send_block.new.due
-          c.loop-y.left c.loop-y.y _ _ _ _ inv.0 chosen.chosen wide lines c.send_block.ensures.clears c.send_block.ensures.sends,
-      box_more (k.means c.args.link.now) c.args.canvas.now c.args.due.now c.args.grant (k.means c.loop-y.link) (k.means c.send_block.new.link) c.loop-y.due c.send_block.new.due
-          c.loop-y.left c.loop-y.y _ _ _ _ inv.0 chosen.chosen wide lines c.send_block.ensures.clears c.send_block.ensures.sends inv.1 chosen.ends,
-    )
+    let block = c.choose-m.ensures in
+    let sent = c.send_block.ensures in
+    block_more (k.means c.args.link.now) c.args.canvas.now c.args.due.now c.args.grant (k.means c.loop-y.link) (k.means c.send_block.new.link) c.loop-y.due c.send_block.new.due
+    c.loop-y.left c.loop-y.y _ _ _ _ inv.0 block.chosen wide lines sent.clears sent.sends inv.1 block.ends

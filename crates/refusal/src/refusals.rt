@@ -1,3 +1,6 @@
+// Refusals, and what comes with some.
+ghost use Rattle.std.specs.Prelude.{◌≡◌};
+
 // The cases that carry no values.
 #[derive(Clone, Copy, PartialEq, Eq, Debug)]
 pub enum Refusal {
@@ -34,4 +37,13 @@ pub enum Refusal {
 pub struct HandedBack<T> {
     pub refusal: Refusal,
     pub value: T,
+}
+
+// What was refused, without what came back; so `?` hands a refusal on.
+impl<T: Drop> From<HandedBack<T>> for Refusal {
+    ghost from_gives = { λ back refusal. refusal ≡ back.refusal };
+
+    fn from(back: HandedBack<T>) -> Refusal {
+        back.refusal
+    }
 }

@@ -4,6 +4,7 @@ ghost use Rattle.refusal.specs.Numbers.{number, bad_listing_number};
 
 use crate::bad_listing::BadListing;
 use crate::refusals::Refusal;
+use std::error::Error;
 use std::fmt;
 
 impl Refusal {
@@ -54,6 +55,8 @@ impl fmt::Display for Refusal {
         write!(f, "{number}: {text}")
     }
 }
+
+impl Error for Refusal {}
 
 impl BadListing {
     pub fn number(self) -> u8

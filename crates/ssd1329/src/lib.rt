@@ -3,7 +3,7 @@
 // docs/CONTROLLER.md and docs/GLASS.md have the rules in words, specs/ has them as definitions.
 #![tactic(auto)]
 
-mod commands;
+pub mod commands;
 mod controller;
 mod laws;
 mod shows;

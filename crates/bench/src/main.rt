@@ -4,7 +4,6 @@
 // listing, glass or picture.
 #![tactic(auto)]
 
-use anyhow::anyhow;
 use runner::{Wanted, bench};
 use std::env;
 use std::io::Read;
@@ -12,20 +11,10 @@ use std::io::Read;
 // One byte more than the longest script: enough to see that a text is too long.
 const ENOUGH: u64 = 65536;
 
-fn meant(word: &str) -> anyhow::Result<Wanted> {
-    match word {
-        "answers" => Ok(Wanted::Answers),
-        "listing" => Ok(Wanted::Listing),
-        "glass" => Ok(Wanted::Glass),
-        "picture" => Ok(Wanted::Image),
-        _ => Err(anyhow!("ask for answers, listing, glass or picture")),
-    }
-}
-
 fn asked(rt: &HostRuntime) -> anyhow::Result<Wanted> {
     match env::args(rt)?.nth(1) {
         None => Ok(Wanted::Answers),
-        Some(word) => meant(word.as_str()),
+        Some(word) => Ok(word.as_str().parse()?),
     }
 }
 

@@ -3,7 +3,6 @@
 // data/NNN.lst is a listing, data/NNN.out what the viewer should print, made by another model of the rules.
 #![tactic(auto)]
 
-use anyhow::anyhow;
 use listing::view;
 use ssd1329::Controller;
 use std::alloc::Global;
@@ -13,9 +12,7 @@ const CASES: u32 = 120;
 
 // What the viewer prints for a text.
 fn viewed(heap: Global, text: &[u8]) -> anyhow::Result<Vec<u8>> {
-    let Ok(mut controller) = Controller::new(vec![in heap; 0u8; 8192]?) else {
-        return Err(anyhow!("a controller has 8192 bytes of memory"));
-    };
+    let mut controller = Controller::blank(heap)?;
     let mut out = Vec::new(heap);
     view(text, &mut controller, &mut out)?;
     Ok(out)

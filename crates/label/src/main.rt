@@ -22,9 +22,7 @@ fn draw(screen: &mut Screen<ListingLink>, pen: &mut Pen) -> Result<(), Refusal> 
     pen.ink(0)?;
     screen.bar(pen, 1, 1, WIDTH - 2, HEIGHT - 2)?;
     let bytes: &[u8] = &EIGHT;
-    let Ok(figure) = BitPicture::new(bytes, 8, 8, 12) else {
-        return Err(Refusal::PictureShape);
-    };
+    let figure = BitPicture::new(bytes, 8, 8, 12)?;
     screen.place(pen, &figure, 4, 4)?;
     {
         let patch = pen.narrow(Rectangle::new(20, 4, 12, 8)?);
@@ -40,19 +38,14 @@ fn draw(screen: &mut Screen<ListingLink>, pen: &mut Pen) -> Result<(), Refusal> 
 fn digit(gray: u8) -> char {
     match gray {
         0 => '.',
-        1..=9 => char::from(b'0' + gray),
-        10..=15 => char::from(b'a' + (gray - 10)),
-        _ => '?',
+        _ => char::from_digit(u32::from(gray), 16).unwrap_or('?'),
     }
 }
 
 fn print(rt: &HostRuntime, screen: &Screen<ListingLink>) -> anyhow::Result<()> {
     for y in 0..HEIGHT {
         for x in 0..WIDTH {
-            let shown = match screen.gray(x, y) {
-                Ok(gray) => digit(gray),
-                Err(_) => '?',
-            };
+            let shown = screen.gray(x, y).map_or('?', digit);
             print!(rt; "{shown}")?;
         }
         println!(rt; "")?;
@@ -62,9 +55,7 @@ fn print(rt: &HostRuntime, screen: &Screen<ListingLink>) -> anyhow::Result<()> {
 
 fn show(rt: &HostRuntime) -> anyhow::Result<()> {
     let link = ListingLink::new(vec![in rt.alloc(); 0u8; 64]?);
-    let Ok(mut screen) = Screen::new(Wiring::plain(), link) else {
-        return Err(anyhow!("a fresh link is refused"));
-    };
+    let mut screen = Screen::new(Wiring::plain(), link).map_err(|_| anyhow!("a fresh link is refused"))?;
     let mut pen = Pen::new();
     if let Err(refusal) = draw(&mut screen, &mut pen) {
         println!(rt; "{refusal}")?;

@@ -4,19 +4,11 @@ use drawing::{Pen, Rectangle};
 use link::{Link, ListingLink, Panel};
 use listing::{Record, check, write_record};
 use picture::{BitPicture, Crop, GrayPicture, Picture};
-use refusal::{HandedBack, Refusal};
+use refusal::HandedBack;
 use screen::{FlushFault, Screen};
 use script::{Unread, read};
 use ssd1329::{Controller, Transfer, Wiring};
 use std::alloc::{AllocError, Global};
-
-// What was refused, without what came back.
-fn plainly<T, B: Drop>(answer: Result<T, HandedBack<B>>) -> Result<T, Refusal> {
-    match answer {
-        Ok(made) => Ok(made),
-        Err(back) => Err(back.refusal),
-    }
-}
 
 fn panel(heap: Global, transfers: u32) -> Result<Panel, AllocError> {
     Ok(Panel::new(vec![in heap; 0u8; 8192]?, transfers))
@@ -47,7 +39,7 @@ fn try_memory(heap: Global, tally: &mut Tally) -> Result<(), AllocError> {
     for (size, wanted) in [(8191usize, 15u8), (8192, 0), (8193, 15)] {
         let memory = vec![in heap; 0u8; size]?;
         tally.number(Panel::check(memory.as_slice()), wanted);
-        tally.number(plainly(Controller::new(memory)), wanted);
+        tally.number(Controller::new(memory), wanted);
     }
     for (size, wanted) in [(0usize, 0u8), (65535, 0), (65536, 15)] {
         let buffer = vec![in heap; 0u8; size]?;
@@ -79,15 +71,15 @@ fn try_glass(heap: Global, tally: &mut Tally) -> Result<(), AllocError> {
 fn try_making(heap: Global, tally: &mut Tally) -> Result<(), AllocError> {
     tally.number(Wiring::new(true, true, true, 127), 0);
     tally.number(Wiring::new(false, false, false, 128), 11);
-    tally.number(plainly(Screen::new(Wiring::plain(), panel(heap, 9)?)), 0);
+    tally.number(Screen::new(Wiring::plain(), panel(heap, 9)?), 0);
     let mut open = panel(heap, 9)?;
     tally.number(open.open(1), 0);
-    tally.number(plainly(Screen::new(Wiring::plain(), open)), 1);
+    tally.number(Screen::new(Wiring::plain(), open), 1);
     let mut used = panel(heap, 9)?;
     tally.number(used.open(1), 0);
     tally.number(used.send(Transfer::Command(0xE3)), 0);
     tally.number(used.close(), 0);
-    tally.number(plainly(Screen::new(Wiring::plain(), used)), 1);
+    tally.number(Screen::new(Wiring::plain(), used), 1);
     Ok(())
 }
 
@@ -116,14 +108,16 @@ fn try_drawing(heap: Global, tally: &mut Tally) -> Result<(), AllocError> {
     Ok(())
 }
 
+type Bits = Result<BitPicture<Vec<u8>>, HandedBack<Vec<u8>>>;
+
 fn bits(
     heap: Global,
     bytes: usize,
     width: u32,
     height: u32,
     gray: u8,
-) -> Result<Result<BitPicture<Vec<u8>>, Refusal>, AllocError> {
-    Ok(plainly(BitPicture::new(vec![in heap; 0xFFu8; bytes]?, width, height, gray)))
+) -> Result<Bits, AllocError> {
+    Ok(BitPicture::new(vec![in heap; 0xFFu8; bytes]?, width, height, gray))
 }
 
 // 9, then 8 for pictures; 10 for a crop; 12 for a dot outside.
@@ -144,7 +138,7 @@ fn try_pictures(heap: Global, tally: &mut Tally) -> Result<(), AllocError> {
     }
     for (bytes, width, wanted) in [(1usize, 2u32, 0u8), (2, 3, 0), (1, 3, 9), (65, 129, 9)] {
         tally.number(
-            plainly(GrayPicture::new(vec![in heap; 0u8; bytes]?, width, 1)),
+            GrayPicture::new(vec![in heap; 0u8; bytes]?, width, 1),
             wanted,
         );
     }
@@ -161,7 +155,7 @@ fn try_pictures(heap: Global, tally: &mut Tally) -> Result<(), AllocError> {
             tally.number(picture.dot(7, 1), 0);
             tally.number(picture.dot(8, 0), 12);
             tally.number(picture.dot(0, 2), 12);
-            tally.number(plainly(Crop::new(picture, a, b, w, h)), wanted);
+            tally.number(Crop::new(picture, a, b, w, h), wanted);
         } else {
             tally.case(false);
         }
@@ -174,15 +168,9 @@ fn try_listing(heap: Global, tally: &mut Tally) -> Result<(), AllocError> {
     let good = b"O\t0001\nC\tAF\nZ\n";
     tally.case(check(good).is_ok());
     let late = b"O\t0001\nC\tAF\nC\tAF\nZ\n";
-    tally.case(match check(late) {
-        Ok(()) => false,
-        Err(bad) => bad.number() == 13 && bad.place == 12,
-    });
+    tally.case(matches!(check(late), Err(bad) if bad.number() == 13 && bad.place == 12));
     let long = vec![in heap; b'Z'; 65536]?;
-    tally.case(match check(long.as_slice()) {
-        Ok(()) => false,
-        Err(bad) => bad.place == 65535,
-    });
+    tally.case(matches!(check(long.as_slice()), Err(bad) if bad.place == 65535));
     let mut line = [0u8; 7];
     tally.number(write_record(&mut line, 0, Record::Open(0)), 5);
     tally.number(write_record(&mut line, 1, Record::Open(10000)), 5);
@@ -191,34 +179,27 @@ fn try_listing(heap: Global, tally: &mut Tally) -> Result<(), AllocError> {
     Ok(())
 }
 
-fn flush_number(answer: Result<u32, FlushFault>) -> u8 {
-    match answer {
-        Ok(_) => 0,
-        Err(fault) => fault.number(),
-    }
-}
-
 // 5, then 4 for a flush; 14 with its values.
 fn try_flush(heap: Global, tally: &mut Tally) -> Result<(), AllocError> {
     let Ok(mut screen) = Screen::new(Wiring::plain(), panel(heap, 9)?) else {
         tally.case(false);
         return Ok(());
     };
-    tally.case(flush_number(screen.flush(0)) == 5);
-    tally.case(flush_number(screen.flush(10000)) == 5);
-    tally.case(match screen.flush(9999) {
-        Err(FlushFault::LeftOver(left)) => left.count == 9 && left.due == 8190,
-        _ => false,
-    });
-    tally.case(flush_number(screen.flush(1)) == 4);
-    tally.case(flush_number(screen.flush(0)) == 5);
+    tally.number(screen.flush(0), 5);
+    tally.number(screen.flush(10000), 5);
+    tally.case(matches!(
+        screen.flush(9999),
+        Err(FlushFault::LeftOver(left)) if left.count == 9 && left.due == 8190
+    ));
+    tally.number(screen.flush(1), 4);
+    tally.number(screen.flush(0), 5);
     let Ok(mut lit) = Screen::new(Wiring::plain(), panel(heap, 9999)?) else {
         tally.case(false);
         return Ok(());
     };
-    tally.case(flush_number(lit.flush(8198)) == 14);
-    tally.case(flush_number(lit.flush(9999)) == 0);
-    tally.case(flush_number(lit.flush(1)) == 0);
+    tally.number(lit.flush(8198), 14);
+    tally.number(lit.flush(9999), 0);
+    tally.number(lit.flush(1), 0);
     Ok(())
 }
 
@@ -229,15 +210,12 @@ fn try_room(heap: Global, tally: &mut Tally) -> Result<(), AllocError> {
     for _ in 0..16379u32 {
         text.extend_from_slice(b"end\n")?;
     }
-    tally.case(match read(heap, text.as_slice()) {
-        Ok(script) => text.len() == 65535 && script.lines.len() == 16379,
-        Err(_) => false,
-    });
+    tally.case(
+        read(heap, text.as_slice())
+            .is_ok_and(|script| text.len() == 65535 && script.lines.len() == 16379),
+    );
     text.extend_from_slice(b"end\n")?;
-    tally.case(match read(heap, text.as_slice()) {
-        Err(Unread::BadLine(number)) => number == 16382,
-        _ => false,
-    });
+    tally.case(matches!(read(heap, text.as_slice()), Err(Unread::BadLine(16382))));
     Ok(())
 }
 

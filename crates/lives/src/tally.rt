@@ -1,6 +1,30 @@
 // How many cases were tried, and how many came out otherwise.
-use refusal::Refusal;
+use refusal::{HandedBack, Refusal};
+use screen::FlushFault;
 use std::fmt;
+
+// What a call is refused with has a number.
+pub trait Numbered: Drop {
+    fn told(&self) -> u8;
+}
+
+impl Numbered for Refusal {
+    fn told(&self) -> u8 {
+        self.number()
+    }
+}
+
+impl<T: Drop> Numbered for HandedBack<T> {
+    fn told(&self) -> u8 {
+        self.refusal.number()
+    }
+}
+
+impl Numbered for FlushFault {
+    fn told(&self) -> u8 {
+        self.number()
+    }
+}
 
 #[derive(Clone, Copy)]
 pub struct Tally {
@@ -23,31 +47,24 @@ impl Tally {
     pub fn case(&mut self, agrees: bool) {
         if !agrees {
             self.differ = self.differ.saturating_add(1);
-            if self.first.is_none() {
-                self.first = Some(self.tried);
-            }
+            self.first = self.first.or(Some(self.tried));
         }
         self.tried = self.tried.saturating_add(1);
     }
 
     // A call that should be refused with a number, or accepted where that is 0.
-    pub fn number<T: Drop>(&mut self, answer: Result<T, Refusal>, wanted: u8) {
-        let got = match answer {
-            Ok(_) => 0,
-            Err(refusal) => refusal.number(),
-        };
+    pub fn number<T: Drop, E: Numbered>(&mut self, answer: Result<T, E>, wanted: u8) {
+        let got = answer.map_or_else(|refused| refused.told(), |_| 0);
         self.case(got == wanted);
     }
 }
 
 impl fmt::Display for Tally {
     fn fmt<W: fmt::Write>(&self, f: &mut fmt::Formatter<W>) -> fmt::Result {
-        let tried = self.tried;
-        let differ = self.differ;
-        write!(f, "{tried} cases, {differ} differ")?;
-        match self.first {
-            None => Ok(()),
-            Some(first) => write!(f, ", the first is {first}"),
+        write!(f, "{} cases, {} differ", self.tried, self.differ)?;
+        if let Some(first) = self.first {
+            write!(f, ", the first is {first}")?;
         }
+        Ok(())
     }
 }

@@ -27,10 +27,7 @@ fn whole_picture(heap: Global) -> anyhow::Result<Picture> {
             bytes.push(wanted(2 * k, y) * 16 + wanted(2 * k + 1, y))?;
         }
     }
-    match GrayPicture::new(bytes, 128, 128) {
-        Ok(picture) => Ok(picture),
-        Err(_) => Err(anyhow!("the picture is refused")),
-    }
+    GrayPicture::new(bytes, 128, 128).map_err(|_| anyhow!("the picture is refused"))
 }
 
 // The panel of a module on which the picture was drawn and flushed.
@@ -46,31 +43,26 @@ fn shown(heap: Global, wiring: Wiring, picture: &Picture) -> Result<Option<Panel
 }
 
 fn agrees(panel: &Panel, wiring: &Wiring) -> bool {
-    for y in 0..128u32 {
-        for x in 0..128u32 {
-            match panel.dot(wiring, x, y) {
-                Ok(gray) if gray == wanted(x, y) => {}
-                _ => return false,
-            }
-        }
-    }
-    true
+    (0..128).all(|y| (0..128).all(|x| panel.dot(wiring, x, y) == Ok(wanted(x, y))))
+}
+
+// Whether the drawing comes out on a module of that wiring.
+fn comes_out(heap: Global, wiring: Wiring, picture: &Picture) -> Result<bool, AllocError> {
+    let panel = shown(heap, wiring, picture)?;
+    Ok(panel.is_some_and(|panel| agrees(&panel, &wiring)))
 }
 
 pub fn try_wirings(heap: Global) -> anyhow::Result<Tally> {
     let picture = whole_picture(heap)?;
     let mut tally = Tally::new();
-    for marks in 0..8u8 {
-        for shift in 0..128u8 {
-            let Ok(wiring) = Wiring::new(marks % 2 == 1, marks / 2 % 2 == 1, marks / 4 == 1, shift)
-            else {
-                return Err(anyhow!("a wiring is refused"));
-            };
-            let panel = shown(heap, wiring, &picture)?;
-            tally.case(match &panel {
-                Some(panel) => agrees(panel, &wiring),
-                None => false,
-            });
+    for comb in [false, true] {
+        for flipped in [false, true] {
+            for mirrored in [false, true] {
+                for shift in 0..128 {
+                    let wiring = Wiring::new(mirrored, flipped, comb, shift)?;
+                    tally.case(comes_out(heap, wiring, &picture)?);
+                }
+            }
         }
     }
     Ok(tally)

@@ -1,2 +1,3 @@
 pub mod Plans
 pub mod Runs
+pub mod Wanted

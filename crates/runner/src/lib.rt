@@ -4,10 +4,11 @@
 #![tactic(auto)]
 
 mod plans;
+mod printed;
 mod prints;
 mod runs;
 mod wanted;
 
 pub use prints::bench;
 pub use runs::{Outcome, run};
-pub use wanted::Wanted;
+pub use wanted::{NotWanted, Wanted};

@@ -1,11 +1,11 @@
 // What a script is answered, as text. No contract speaks of a stream, so what is written is tested.
+use crate::printed::Printed;
 use crate::runs::{Outcome, run};
 use crate::wanted::Wanted;
 use anyhow::anyhow;
 use link::ListingLink;
 use listing::{replay, view_on};
 use refusal::Refusal;
-use screen::{Answer, FlushFault, LeftOver};
 use script::{Card, Script, Unread, read};
 use ssd1329::{Controller, Wiring};
 use std::alloc::Global;
@@ -15,42 +15,6 @@ use std::io::Write;
 // One byte more than the longest listing buffer: enough to see that one is too long.
 const TOO_LONG: u32 = 65536;
 
-fn write_refusal<W: Write>(out: &mut W, refusal: Refusal) -> io::Result<()> {
-    let number = refusal.number();
-    writeln!(out, "{number}")
-}
-
-fn write_left<W: Write>(out: &mut W, number: u8, left: LeftOver) -> io::Result<()> {
-    let count = left.count;
-    let due = left.due;
-    match left.first {
-        None => writeln!(out, "{number}\t{count}\t{due}\tnone"),
-        Some(place) => {
-            let line = place.line;
-            let column = place.column;
-            writeln!(out, "{number}\t{count}\t{due}\t{line}\t{column}")
-        }
-    }
-}
-
-fn write_fault<W: Write>(out: &mut W, fault: FlushFault) -> io::Result<()> {
-    match fault {
-        FlushFault::Refused(refusal) => write_refusal(out, refusal),
-        FlushFault::LeftOver(left) => write_left(out, fault.number(), left),
-    }
-}
-
-fn write_answer<W: Write>(out: &mut W, answer: Answer) -> io::Result<()> {
-    match answer {
-        Answer::Judged(Ok(())) => writeln!(out, "ok"),
-        Answer::Judged(Err(refusal)) => write_refusal(out, refusal),
-        Answer::Ended => writeln!(out, "ok"),
-        Answer::NoneOpen => writeln!(out, "none"),
-        Answer::Flushed(Ok(count)) => writeln!(out, "done\t{count}"),
-        Answer::Flushed(Err(fault)) => write_fault(out, fault),
-    }
-}
-
 // A line for each line of the script, its card and its buffer first: a refused picture has its refusal, every
 // other line the next answer.
 fn write_answers<W: Write>(out: &mut W, outcome: &Outcome) -> io::Result<()> {
@@ -59,33 +23,10 @@ fn write_answers<W: Write>(out: &mut W, outcome: &Outcome) -> io::Result<()> {
     let mut answers = outcome.answers.iter();
     for refused in &outcome.refused {
         if let Some(refusal) = *refused {
-            write_refusal(out, refusal)?;
+            writeln!(out, "{}", refusal.number())?;
         } else if let Some(answer) = answers.next() {
-            write_answer(out, *answer)?;
+            writeln!(out, "{}", Printed(*answer))?;
         }
-    }
-    Ok(())
-}
-
-fn blank(heap: Global) -> anyhow::Result<Controller> {
-    match Controller::new(vec![in heap; 0u8; 8192]?) {
-        Ok(controller) => Ok(controller),
-        Err(_) => Err(anyhow!("a controller has 8192 bytes of memory")),
-    }
-}
-
-// Sixteen grays of a line, from x on.
-fn write_grays<W: Write>(
-    out: &mut W,
-    controller: &Controller,
-    wiring: &Wiring,
-    x: u32,
-    y: u32,
-) -> io::Result<()> {
-    for i in 0..16u32 {
-        let gray = controller.dot(wiring, x.saturating_add(i), y).unwrap_or(0);
-        let after = if i < 15 { ' ' } else { '\n' };
-        write!(out, "{gray}{after}")?;
     }
     Ok(())
 }
@@ -93,9 +34,11 @@ fn write_grays<W: Write>(
 // A plain PGM image of the glass, 16 dots to a line of text.
 fn write_image<W: Write>(out: &mut W, controller: &Controller, wiring: &Wiring) -> io::Result<()> {
     writeln!(out, "P2\n128 128\n15")?;
-    for y in 0..128u32 {
-        for part in 0..8u32 {
-            write_grays(out, controller, wiring, part * 16, y)?;
+    for y in 0..128 {
+        for x in 0..128 {
+            let gray = controller.dot(wiring, x, y).unwrap_or(0);
+            let after = if x % 16 < 15 { ' ' } else { '\n' };
+            write!(out, "{gray}{after}")?;
         }
     }
     Ok(())
@@ -112,9 +55,9 @@ fn write_wanted<W: Write>(
     match wanted {
         Wanted::Answers => write_answers(out, outcome)?,
         Wanted::Listing => out.write_all(text)?,
-        Wanted::Glass => view_on(text, wiring, &mut blank(heap)?, out)?,
+        Wanted::Glass => view_on(text, wiring, &mut Controller::blank(heap)?, out)?,
         Wanted::Image => {
-            let mut controller = blank(heap)?;
+            let mut controller = Controller::blank(heap)?;
             let _ = replay(text, &mut controller);
             write_image(out, &controller, wiring)?;
         }
@@ -144,14 +87,14 @@ fn write_script<W: Write>(
     } = script;
     let wiring = match wiring_of(card) {
         Ok(wiring) => wiring,
-        Err(refusal) => return Ok(write_refusal(out, refusal)?),
+        Err(refusal) => return Ok(writeln!(out, "{}", refusal.number())?),
     };
     let bytes = vec![in heap; 0u8; buffer.min(TOO_LONG) as usize]?;
     if let Err(refusal) = ListingLink::check(bytes.as_slice()) {
         if wanted == Wanted::Answers {
             writeln!(out, "ok")?;
         }
-        return Ok(write_refusal(out, refusal)?);
+        return Ok(writeln!(out, "{}", refusal.number())?);
     }
     let outcome = run(heap, wiring, bytes, lines)?;
     write_wanted(heap, out, wanted, &wiring, &outcome)

@@ -1,7 +1,6 @@
 // Shows what a listing on standard input leaves on the glass.
 #![tactic(auto)]
 
-use anyhow::anyhow;
 use listing::view;
 use ssd1329::Controller;
 use std::io::Read;
@@ -13,9 +12,7 @@ fn show(rt: &HostRuntime) -> anyhow::Result<()> {
     let heap = rt.alloc();
     let mut text = Vec::new(heap);
     rt.stdin().take(ENOUGH).read_to_end(&mut text)?;
-    let Ok(mut controller) = Controller::new(vec![in heap; 0u8; 8192]?) else {
-        return Err(anyhow!("a controller has 8192 bytes of memory"));
-    };
+    let mut controller = Controller::blank(heap)?;
     view(text.as_slice(), &mut controller, &mut rt.stdout())?;
     Ok(())
 }

@@ -34,6 +34,16 @@ fn only_8192_bytes_are_a_memory(rt: HostRuntime) -> Result<(), Fail> {
 }
 
 #[test]
+fn a_blank_controller_is_dark_and_then_shows_zeros(rt: HostRuntime) -> Result<(), Fail> {
+    let mut c = Controller::blank(rt.alloc())?;
+    assert_eq!(rt; c.shows(), Shows::Dark);
+    commands(&mut c, &[0xAF]);
+    assert_eq!(rt; c.shows(), Shows::Lit);
+    assert_eq!(rt; c.dot(&Wiring::plain(), 0, 0), Ok(0));
+    Ok(())
+}
+
+#[test]
 fn a_shift_above_127_is_refused(rt: HostRuntime) -> Result<(), Fail> {
     assert!(rt; Wiring::new(true, true, true, 127).is_ok());
     match Wiring::new(false, false, false, 128) {

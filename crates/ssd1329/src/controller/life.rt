@@ -1,12 +1,13 @@
 // The beginning of a controller, the end of a slot, and its memory back.
-ghost use Rattle.std.specs.Prelude.{◌≡◌, is_ok, vec_len, MatchResult, ◌==◌};
+ghost use Rattle.std.specs.Prelude.{◌≡◌, is_ok, vec_len, IfOk, MatchResult, ◌==◌};
 ghost use Rattle.refusal.specs.declared.refusals.Refusal.TheVariants.{Memory};
 ghost use Rattle.ssd1329.specs.Meaning.{chip, settings};
 ghost use Rattle.ssd1329.specs.Settings.{at_reset};
-ghost use Rattle.ssd1329.specs.Chip.{reset, dropped};
+ghost use Rattle.ssd1329.specs.Chip.{blank, reset, dropped};
 
 use super::{Awaited, Controller, Registers, Window};
 use refusal::{HandedBack, Refusal};
+use std::alloc::{AllocError, Global};
 
 impl Registers {
     fn at_reset() -> Registers
@@ -22,6 +23,22 @@ impl Registers {
 }
 
 impl Controller {
+    #[tactic(auto, unfolding(crate::specs::Chip::reset))]
+    fn at_reset(memory: Vec<u8>) -> Controller
+        requires { vec_len memory ≡ 8192 }
+        ensures { chip result ≡ reset memory.items }
+    {
+        Controller {
+            memory,
+            window: Window::whole(),
+            registers: Registers::at_reset(),
+            awake: false,
+            astray: false,
+            awaited: Awaited::Opcode,
+            held: None,
+        }
+    }
+
     // A controller at reset over a memory of 8,192 bytes, whatever they are; other memory is handed back.
     pub fn new(memory: Vec<u8>) -> Result<Controller, HandedBack<Vec<u8>>>
         ensures judged { is_ok result ≡ (vec_len memory == 8192) }
@@ -33,15 +50,14 @@ impl Controller {
                 value: memory,
             });
         }
-        Ok(Controller {
-            memory,
-            window: Window::whole(),
-            registers: Registers::at_reset(),
-            awake: false,
-            astray: false,
-            awaited: Awaited::Opcode,
-            held: None,
-        })
+        Ok(Controller::at_reset(memory))
+    }
+
+    // A controller at reset over a memory of zeros.
+    pub fn blank(heap: Global) -> Result<Controller, AllocError>
+        ensures { IfOk result (λ c. chip c ≡ blank) }
+    {
+        Ok(Controller::at_reset(vec![in heap; 0u8; 8192]?))
     }
 
     // Reset leaves the memory as it is.

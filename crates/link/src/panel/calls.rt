@@ -1,39 +1,14 @@
 // The panel as a link.
-ghost use Rattle.std.specs.Prelude.{◌≡◌, true, false};
-ghost use Rattle.ssd1329.specs.Chip.{step, dropped};
+ghost use Rattle.std.specs.Prelude.{◌≡◌};
 ghost use Rattle.link.specs.Links.{open_answer, open_after, send_answer, send_after, close_answer, CloseAfter};
 ghost use Rattle.link.specs.Panels.{panel_meaning};
 ghost use Rattle.link.specs.Refusing.{Untouched};
-ghost use Rattle.link.specs.Seats.{seat_chip, works};
 ghost use Rattle.link.specs.PanelLaws.{panel_lawful};
 
 use super::Panel;
-use super::seat::Seat;
 use crate::links::Link;
 use refusal::Refusal;
 use ssd1329::Transfer;
-
-impl Seat {
-    fn step(&mut self, t: Transfer)
-        ensures steps { works self.old ≡ true → seat_chip self.new ≡ step (seat_chip self.old) t }
-        ensures same { works self.new ≡ works self.old }
-    {
-        match self {
-            Seat::Fit(controller) => controller.step(t),
-            Seat::Unfit(_) => {}
-        }
-    }
-
-    fn end_slot(&mut self)
-        ensures ended { seat_chip self.new ≡ dropped (seat_chip self.old) }
-        ensures same { works self.new ≡ works self.old }
-    {
-        match self {
-            Seat::Fit(controller) => controller.end_slot(),
-            Seat::Unfit(_) => {}
-        }
-    }
-}
 
 impl Link for Panel {
     ghost means = { panel_meaning };
@@ -73,7 +48,9 @@ impl Link for Panel {
         self.slot = Some(left - 1);
         self.room -= 1;
         self.taken += 1;
-        self.seat.step(t);
+        if let Ok(controller) = &mut self.seat {
+            controller.step(t);
+        }
         Ok(())
     }
 
@@ -87,7 +64,9 @@ impl Link for Panel {
             return Err(Refusal::NoSlot);
         }
         self.slot = None;
-        self.seat.end_slot();
+        if let Ok(controller) = &mut self.seat {
+            controller.end_slot();
+        }
         Ok(())
     }
 

@@ -7,45 +7,15 @@ ghost use Rattle.ssd1329.specs.Meaning.{chip};
 ghost use Rattle.link.specs.Panels.{panel_meaning, seat_memory, fresh_link, NewPanel};
 
 use super::Panel;
-use super::seat::Seat;
 use refusal::Refusal;
 use ssd1329::Controller;
 
 impl Panel {
-    fn working(controller: Controller, transfers: u32) -> Panel
-        requires { is_reset (chip controller) ≡ true }
-        ensures means { panel_meaning result ≡ fresh_link (chip controller) transfers }
-        ensures keeps { seat_memory result.seat ≡ (chip controller).memory }
-    {
-        Panel {
-            seat: Seat::Fit(controller),
-            slot: None,
-            room: transfers,
-            taken: 0,
-        }
-    }
-
-    fn idle(memory: Vec<u8>) -> Panel
-        ensures means { panel_meaning result ≡ fresh_link blank 0 }
-        ensures keeps { seat_memory result.seat ≡ memory.items }
-    {
-        Panel {
-            seat: Seat::Unfit(memory),
-            slot: None,
-            room: 0,
-            taken: 0,
-        }
-    }
-
     // Whether the memory can be a panel's: it has 8,192 bytes.
     pub fn check(memory: &[u8]) -> Result<(), Refusal>
         ensures { result ≡ (if nat_eq (length memory.now) 8192 then Ok tt else Err Memory) }
     {
-        if memory.len() == 8192 {
-            Ok(())
-        } else {
-            Err(Refusal::Memory)
-        }
+        (memory.len() == 8192).then_some(()).ok_or(Refusal::Memory)
     }
 
     // A fresh panel that can take so many transfers, or none over memory that fails the check.
@@ -53,9 +23,13 @@ impl Panel {
         ensures means { NewPanel memory.items transfers (panel_meaning result) }
         ensures keeps { seat_memory result.seat ≡ memory.items }
     {
-        match Controller::new(memory) {
-            Ok(controller) => Panel::working(controller, transfers),
-            Err(back) => Panel::idle(back.value),
+        let seat = Controller::new(memory).map_err(|back| back.value);
+        let room = if seat.is_ok() { transfers } else { 0 };
+        Panel {
+            seat,
+            slot: None,
+            room,
+            taken: 0,
         }
     }
 
@@ -63,15 +37,10 @@ impl Panel {
     pub fn into_memory(self) -> Vec<u8>
         ensures { result.items ≡ seat_memory self.seat }
     {
-        let Panel {
-            seat,
-            slot: _,
-            room: _,
-            taken: _,
-        } = self;
+        let seat = self.seat;
         match seat {
-            Seat::Fit(controller) => controller.into_memory(),
-            Seat::Unfit(memory) => memory,
+            Ok(controller) => controller.into_memory(),
+            Err(memory) => memory,
         }
     }
 }

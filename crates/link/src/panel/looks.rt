@@ -5,7 +5,6 @@ ghost use Rattle.ssd1329.specs.Glass.{glass_answer, shown};
 ghost use Rattle.link.specs.Panels.{panel_meaning};
 
 use super::Panel;
-use super::seat::Seat;
 use refusal::Refusal;
 use ssd1329::{Shows, Wiring};
 
@@ -15,8 +14,8 @@ impl Panel {
         ensures { result ≡ shown (panel_meaning self.now).chip }
     {
         match &self.seat {
-            Seat::Fit(controller) => controller.shows(),
-            Seat::Unfit(_) => Shows::Dark,
+            Ok(controller) => controller.shows(),
+            Err(_) => Shows::Dark,
         }
     }
 
@@ -25,14 +24,9 @@ impl Panel {
         ensures { result ≡ glass_answer (wires wiring.now) (panel_meaning self.now).chip x y }
     {
         match &self.seat {
-            Seat::Fit(controller) => controller.dot(wiring, x, y),
-            Seat::Unfit(_) => {
-                if x < 128 && y < 128 {
-                    Ok(0)
-                } else {
-                    Err(Refusal::Position)
-                }
-            }
+            Ok(controller) => controller.dot(wiring, x, y),
+            Err(_) if x > 127 || y > 127 => Err(Refusal::Position),
+            Err(_) => Ok(0),
         }
     }
 }

@@ -15,11 +15,7 @@ impl ListingLink {
     pub fn check(buffer: &[u8]) -> Result<(), Refusal>
         ensures { result ≡ (if nat_le (length buffer.now) 65535 then Ok tt else Err Memory) }
     {
-        if buffer.len() <= 65535 {
-            Ok(())
-        } else {
-            Err(Refusal::Memory)
-        }
+        (buffer.len() <= 65535).then_some(()).ok_or(Refusal::Memory)
     }
 
     // A fresh link with an empty text, over a buffer that fails the check with room 0.
@@ -41,19 +37,13 @@ impl ListingLink {
         ensures value { result.now ≡ text_of self.now }
         ensures lists { Lists result.now (records_of self.now) }
     {
-        &self.buffer.as_slice()[0..self.used]
+        &self.buffer[..self.used]
     }
 
     // The buffer, as it is.
     pub fn into_buffer(self) -> Vec<u8>
         ensures { result ≡ self.buffer }
     {
-        let ListingLink {
-            buffer,
-            used: _,
-            slot: _,
-            taken: _,
-        } = self;
-        buffer
+        self.buffer
     }
 }

@@ -55,7 +55,9 @@ fn print(rt: &HostRuntime, screen: &Screen<ListingLink>) -> anyhow::Result<()> {
 
 fn show(rt: &HostRuntime) -> anyhow::Result<()> {
     let link = ListingLink::new(vec![in rt.alloc(); 0u8; 64]?);
-    let mut screen = Screen::new(Wiring::plain(), link).map_err(|_| anyhow!("a fresh link is refused"))?;
+    let mut screen = Screen::new(Wiring::plain(), link).map_err(|_| anyhow!(
+        "a fresh link is refused"
+    ))?;
     let mut pen = Pen::new();
     if let Err(refusal) = draw(&mut screen, &mut pen) {
         println!(rt; "{refusal}")?;

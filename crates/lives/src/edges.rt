@@ -110,13 +110,7 @@ fn try_drawing(heap: Global, tally: &mut Tally) -> Result<(), AllocError> {
 
 type Bits = Result<BitPicture<Vec<u8>>, HandedBack<Vec<u8>>>;
 
-fn bits(
-    heap: Global,
-    bytes: usize,
-    width: u32,
-    height: u32,
-    gray: u8,
-) -> Result<Bits, AllocError> {
+fn bits(heap: Global, bytes: usize, width: u32, height: u32, gray: u8) -> Result<Bits, AllocError> {
     Ok(BitPicture::new(vec![in heap; 0xFFu8; bytes]?, width, height, gray))
 }
 
@@ -210,10 +204,8 @@ fn try_room(heap: Global, tally: &mut Tally) -> Result<(), AllocError> {
     for _ in 0..16379u32 {
         text.extend_from_slice(b"end\n")?;
     }
-    tally.case(
-        read(heap, text.as_slice())
-            .is_ok_and(|script| text.len() == 65535 && script.lines.len() == 16379),
-    );
+    tally.case(read(heap, text.as_slice()).is_ok_and(|script| text.len() == 65535
+        && script.lines.len() == 16379));
     text.extend_from_slice(b"end\n")?;
     tally.case(matches!(read(heap, text.as_slice()), Err(Unread::BadLine(16382))));
     Ok(())

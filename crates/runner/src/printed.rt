@@ -3,6 +3,7 @@ use screen::{Answer, FlushFault, LeftOver};
 use std::fmt;
 
 // An answer as the line that is printed of it.
+#[derive(Clone, Copy)]
 pub struct Printed(pub Answer);
 
 impl fmt::Display for Printed {
@@ -19,6 +20,7 @@ impl fmt::Display for Printed {
 }
 
 // What a flush has left, after its number.
+#[derive(Clone, Copy)]
 struct Remaining(FlushFault);
 
 impl fmt::Display for Remaining {

@@ -42,7 +42,9 @@ struct Sheet {
 impl Sheet {
     fn fresh(heap: Global) -> anyhow::Result<Sheet> {
         let link = ListingLink::new(vec![in heap; 0u8; 65535]?);
-        let screen = Screen::new(Wiring::plain(), link).map_err(|_| anyhow!("a fresh link is refused"))?;
+        let screen = Screen::new(Wiring::plain(), link).map_err(|_| anyhow!(
+            "a fresh link is refused"
+        ))?;
         Ok(Sheet {
             screen,
             pen: Pen::new(),
@@ -73,7 +75,8 @@ impl Sheet {
         self.pen.ink(9)?;
         self.screen.bar(&self.pen, 108, 4, level, 6)?;
         self.pen.ink(0)?;
-        self.screen.bar(&self.pen, 108 + level as i32, 4, 12 - level, 6)
+        self.screen
+            .bar(&self.pen, 108 + level as i32, 4, 12 - level, 6)
     }
 
     fn weight(&mut self, width: u32) -> Result<(), Refusal> {

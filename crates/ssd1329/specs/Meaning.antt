@@ -10,7 +10,15 @@ use Rattle.ssd1329.specs.Chip.{Chip}
 use Rattle.ssd1329.specs.Glass.{Wires}
 
 abbrev pub area : Window → Area
-area w = record { left = w.left; right = w.right; top = w.top; bottom = w.bottom; column = w.column; line = w.line }
+area w =
+    record {
+      left = w.columns.first;
+      right = w.columns.last;
+      top = w.lines.first;
+      bottom = w.lines.last;
+      column = w.columns.at;
+      line = w.lines.at;
+    }
 
 abbrev pub settings : Registers → Settings
 settings r = record { remap = r.remap; start = r.start; offset = r.offset; mux = r.mux }

@@ -21,17 +21,20 @@ pub(crate) enum Awaited {
     Mux,
 }
 
+// A place that goes from a first one to a last one and begins again; none is beyond END.
+#[derive(Drop)]
+pub(crate) struct Pointer<const END: u8> {
+    first: u8,
+    last: u8,
+    at: u8,
+    ghost within: { (first ≤ at) × (at ≤ last) × (last ≤ END) },
+}
+
 // The part of the memory that data bytes fill, and the place of the next byte.
 #[derive(Drop)]
 pub(crate) struct Window {
-    left: u8,
-    right: u8,
-    top: u8,
-    bottom: u8,
-    column: u8,
-    line: u8,
-    ghost across: { (left ≤ column) × (column ≤ right) × (right ≤ 63) },
-    ghost down: { (top ≤ line) × (line ≤ bottom) × (bottom ≤ 127) },
+    columns: Pointer<63>,
+    lines: Pointer<127>,
 }
 
 // The registers that say how memory comes to the glass.

@@ -4,7 +4,7 @@ ghost use Rattle.ssd1329.specs.Meaning.{chip, settings};
 ghost use Rattle.ssd1329.specs.Remap.{halves_swapped, runs_down};
 ghost use Rattle.ssd1329.specs.Chip.{swapped, put, stored, lost, awaiting, asleep_or_awake, opcode_met, command_met, data_met, met, step};
 
-use super::{Awaited, Controller, Registers};
+use super::{Awaited, Controller, Pointer, Registers};
 use crate::commands;
 use crate::transfer::Transfer;
 
@@ -33,7 +33,7 @@ impl Controller {
     fn put(&mut self, b: u8)
         ensures { chip self.new ≡ put (chip self.old) b }
     {
-        let at = self.window.line as usize * 64 + self.window.column as usize;
+        let at = self.window.lines.at as usize * 64 + self.window.columns.at as usize;
         let byte = if self.registers.swaps_halves() {
             swapped(b)
         } else {
@@ -96,12 +96,12 @@ impl Controller {
             Awaited::Opcode => self.opcode(b),
             Awaited::FirstColumn => self.await_next(Awaited::LastColumn(b)),
             Awaited::LastColumn(first) if first <= b && b <= 63 => {
-                self.window.set_columns(first, b);
+                self.window.columns = Pointer::new(first, b);
                 self.awaited = Awaited::Opcode;
             }
             Awaited::FirstLine => self.await_next(Awaited::LastLine(b)),
             Awaited::LastLine(first) if first <= b && b <= 127 => {
-                self.window.set_lines(first, b);
+                self.window.lines = Pointer::new(first, b);
                 self.awaited = Awaited::Opcode;
             }
             Awaited::Remap if b & 0xA8 == 0 => {

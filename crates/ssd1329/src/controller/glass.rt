@@ -72,6 +72,7 @@ impl Controller {
         }
     }
 
+    #[tactic(auto, unfolding(crate::specs::Glass::glass))]
     pub(super) fn gray(&self, wiring: &Wiring, x: usize, y: usize) -> u8
         requires { (x < 128) × (y < 128) }
         ensures { (result ≡ glass (wires wiring.now) (chip self.now) x y) × (result < 16) }

@@ -61,6 +61,7 @@ impl Controller {
     }
 
     // Reset leaves the memory as it is.
+    #[tactic(auto, unfolding(crate::specs::Chip::reset, crate::specs::Chip::dropped))]
     pub fn reset(&mut self)
         ensures fresh { chip self.new ≡ reset (chip self.old).memory }
     {
@@ -73,6 +74,7 @@ impl Controller {
     }
 
     // The end of a slot drops a held byte, and moves no pointer.
+    #[tactic(auto, unfolding(crate::specs::Chip::dropped))]
     pub fn end_slot(&mut self)
         ensures ended { chip self.new ≡ dropped (chip self.old) }
     {
@@ -82,15 +84,6 @@ impl Controller {
     pub fn into_memory(self) -> Vec<u8>
         ensures given_back { result.items ≡ (chip self).memory }
     {
-        let Controller {
-            memory,
-            window: _,
-            registers: _,
-            awake: _,
-            astray: _,
-            awaited: _,
-            held: _,
-        } = self;
-        memory
+        self.memory
     }
 }

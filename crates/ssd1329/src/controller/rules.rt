@@ -93,35 +93,22 @@ impl Controller {
         ensures { chip self.new ≡ command_met (chip self.old) self.old.awaited b }
     {
         match self.awaited {
-            Awaited::Opcode => self.opcode(b),
-            Awaited::FirstColumn => self.await_next(Awaited::LastColumn(b)),
-            Awaited::LastColumn(first) if first <= b && b <= 63 => {
-                self.window.columns = Pointer::new(first, b);
-                self.awaited = Awaited::Opcode;
-            }
-            Awaited::FirstLine => self.await_next(Awaited::LastLine(b)),
-            Awaited::LastLine(first) if first <= b && b <= 127 => {
-                self.window.lines = Pointer::new(first, b);
-                self.awaited = Awaited::Opcode;
-            }
-            Awaited::Remap if b & 0xA8 == 0 => {
-                self.registers.remap = b;
-                self.awaited = Awaited::Opcode;
-            }
-            Awaited::StartLine if b <= 127 => {
-                self.registers.start = b;
-                self.awaited = Awaited::Opcode;
-            }
-            Awaited::Offset if b <= 127 => {
-                self.registers.offset = b;
-                self.awaited = Awaited::Opcode;
-            }
-            Awaited::Mux if 15 <= b && b <= 127 => {
-                self.registers.mux = b;
-                self.awaited = Awaited::Opcode;
-            }
-            _ => self.go_astray(),
+            Awaited::Opcode => return self.opcode(b),
+            Awaited::FirstColumn => return self.await_next(Awaited::LastColumn(b)),
+            Awaited::FirstLine => return self.await_next(Awaited::LastLine(b)),
+            Awaited::LastColumn(first) if first <= b && b <= 63 => self.window.columns =
+                Pointer::new(first, b),
+            Awaited::LastLine(first) if first <= b && b <= 127 => self.window.lines = Pointer::new(
+                first, b,
+            ),
+            Awaited::Remap if b & 0xA8 == 0 => self.registers.remap = b,
+            Awaited::StartLine if b <= 127 => self.registers.start = b,
+            Awaited::Offset if b <= 127 => self.registers.offset = b,
+            Awaited::Mux if 15 <= b && b <= 127 => self.registers.mux = b,
+            _ => return self.go_astray(),
         }
+        // the last operand has come
+        self.awaited = Awaited::Opcode;
     }
 
     // A data byte is held; an awaited operand it is not.
@@ -135,6 +122,7 @@ impl Controller {
     }
 
     // A transfer, by the rules in their order: a held byte is stored first.
+    #[tactic(auto, unfolding(crate::specs::Chip::step))]
     pub fn step(&mut self, t: Transfer)
         ensures stepped { chip self.new ≡ step (chip self.old) t }
     {

@@ -1,9 +1,12 @@
 -- How texts are written into a buffer, one after the other, and how long they are.
-use Rattle.std.proofs.Common.{◌≡◌, ℕ, ◌+◌, ◌*◌, ◌/◌, ◌%◌, ◌<◌, ◌≤◌, Bool, true, false, cond, eqb, ltb, List, [], ◌∷◌, ◌++◌, length, take, drop, sym, refl, ap, ◌∙◌, subst, add-one, arith, lit≤, length-append, length-take}
+use Rattle.std.proofs.Common.{◌≡◌, ℕ, ◌+◌, ◌*◌, ◌<◌, ◌≤◌, Bool, true, false, cond, eqb, ltb, List, [], ◌++◌, length, take, drop, sym, refl, ap, ◌∙◌, subst, add-one, arith, lit≤, length-append, length-take}
 use borrow.Rule.Slice.PartMut.{put_mid}
 use Rattle.std.proofs.lemmas.List.{append_assoc, append-nil, take-append-drop, take_at, drop_at, drop-drop}
-use Rattle.std.proofs.lemmas.Bool.{lt-ltb, le-ltb, cond-true, cond-false, ne_eqb}
-use Rattle.ssd1329.specs.RowText.{digit, decimal, dot_line, dot_text, text_before, written, Put}
+use Rattle.std.proofs.lemmas.Bool.{lt-ltb, cond-false, ne_eqb}
+use Rattle.std.proofs.lemmas.Bool.Decides.{nat_tests}
+use Rattle.std.proofs.lemmas.Fmt.{decimal_digit, decimal_step}
+use Rattle.std.specs.Fmt.{decimal as std_decimal}
+use Rattle.ssd1329.specs.RowText.{decimal, dot_line, dot_text, text_before, written, Put}
 
 -- what a copy into a part of the buffer leaves
 pub put_written : (s ys zs : List ℕ) (at k : ℕ) → ys ≡ zs → k ≡ length zs → put_mid at k s ys ≡ written s at zs
@@ -60,24 +63,10 @@ and_then {s = s} {t = t} {u = u} {xs = xs} {ys = ys} {at = at} {to = to} h p q =
 pub put_same : {s t xs ys : List ℕ} {at end : ℕ} → xs ≡ ys → Put s at xs t end → Put s at ys t end
 put_same {s = s} {t = t} {at = at} {end = end} e p = subst (λ z. Put s at z t end) e p
 
--- decimal digits
-pub one_digit : (n : ℕ) → n < 10 → decimal n ≡ digit (n % 10) ∷ []
+-- decimal digits, as std writes them
+pub decimal_is : (n : ℕ) → n < 1000 → std_decimal n ≡ decimal n
 unfolding decimal
-one_digit n h =
-    let e : n % 10 ≡ n = omega arith in
-    cond-true (ltb n 10) _ _ (lt-ltb n 10 h) ∙ ap (λ d. digit d ∷ []) (sym e)
-
-pub two_digits : (n : ℕ) → 10 ≤ n → n < 100 → decimal n ≡ digit (n / 10 % 10) ∷ digit (n % 10) ∷ []
-unfolding decimal
-two_digits n l h =
-    let e : n / 10 % 10 ≡ n / 10 = omega arith in
-    cond-false (ltb n 10) _ _ (le-ltb n 10 l) ∙ cond-true (ltb n 100) _ _ (lt-ltb n 100 h) ∙ ap (λ d. digit d ∷ digit (n % 10) ∷ []) (sym e)
-
-pub three_digits : (n : ℕ) → 100 ≤ n → decimal n ≡ digit (n / 100) ∷ digit (n / 10 % 10) ∷ digit (n % 10) ∷ []
-unfolding decimal
-three_digits n l =
-    let l' : 10 ≤ n = omega arith in
-    cond-false (ltb n 10) _ _ (le-ltb n 10 l') ∙ cond-false (ltb n 100) _ _ (le-ltb n 100 l)
+decimal_is n h = grind (arith, nat_tests, decimal_digit, decimal_step)
 
 cond_short : (b : Bool) (xs ys : List ℕ) (n : ℕ) → length xs ≤ n → length ys ≤ n → length (cond b xs ys) ≤ n
 cond_short true xs ys n h k = h

@@ -3,6 +3,7 @@
 // docs/CONTROLLER.md and docs/GLASS.md have the rules in words, specs/ has them as definitions.
 #![tactic(auto)]
 
+mod below;
 pub mod commands;
 mod controller;
 mod laws;

@@ -4,21 +4,21 @@ use Rattle.ssd1329.proofs.Texts.{and_then, put_same, decimal_short, decimal_belo
 use Rattle.ssd1329.proofs.controller.row_text.put_dot.Goals as goal
 
 pub put-at-requires : goal.put-at-requires
-put-at-requires c = omega (arith, decimal_short c.args.y)
+put-at-requires c = omega (arith, decimal_short c.args.y.number)
 
 pub put_decimal-at-requires-2 : goal.put_decimal-at-requires-2
-put_decimal-at-requires-2 c = omega (arith, decimal_short c.args.y)
+put_decimal-at-requires-2 c = omega (arith, decimal_short c.args.y.number)
 
 pub put-at-requires-2 : goal.put-at-requires-2
-put-at-requires-2 c = omega (arith, decimal_short c.args.y, decimal_short c.args.x)
+put-at-requires-2 c = omega (arith, decimal_short c.args.y.number, decimal_short c.args.x.number)
 
 pub put_decimal-at-requires-3 : goal.put_decimal-at-requires-3
-put_decimal-at-requires-3 c = omega (arith, decimal_short c.args.y, decimal_short c.args.x)
+put_decimal-at-requires-3 c = omega (arith, decimal_short c.args.y.number, decimal_short c.args.x.number)
 
 pub put-requires : goal.put-requires
 put-requires c =
-    let two : length (decimal c.args.gray) ≤ 2 = decimal_below_100 c.args.gray (omega arith) in
-    omega (arith, decimal_short c.args.y, decimal_short c.args.x)
+    let two : length (decimal c.args.gray.number) ≤ 2 = decimal_below_100 c.args.gray.number (omega arith) in
+    omega (arith, decimal_short c.args.y.number, decimal_short c.args.x.number)
 
 -- six texts, one after the other
 pub returns : goal.returns

@@ -4,9 +4,12 @@ use borrow.Rule.Slice.PartMut.{put_mid}
 use Rattle.std.proofs.lemmas.List.{append_assoc, append-nil, take-append-drop, take_at, drop_at, drop-drop}
 use Rattle.std.proofs.lemmas.Bool.{lt-ltb, cond-false, ne_eqb}
 use Rattle.std.proofs.lemmas.Bool.Decides.{nat_tests}
+use Rattle.std.proofs.lemmas.Grind.{common_steps}
 use Rattle.std.proofs.lemmas.Fmt.{decimal_digit, decimal_step}
 use Rattle.std.specs.Fmt.{decimal as std_decimal}
+use Rattle.ssd1329.specs.declared.controller.row_text.Text.{Text}
 use Rattle.ssd1329.specs.RowText.{decimal, dot_line, dot_text, text_before, written, Put}
+use Rattle.ssd1329.specs.Text.{Adds}
 
 -- what a copy into a part of the buffer leaves
 pub put_written : (s ys zs : List ℕ) (at k : ℕ) → ys ≡ zs → k ≡ length zs → put_mid at k s ys ≡ written s at zs
@@ -63,6 +66,17 @@ and_then {s = s} {t = t} {u = u} {xs = xs} {ys = ys} {at = at} {to = to} h p q =
 pub put_same : {s t xs ys : List ℕ} {at end : ℕ} → xs ≡ ys → Put s at xs t end → Put s at ys t end
 put_same {s = s} {t = t} {at = at} {end = end} e p = subst (λ z. Put s at z t end) e p
 
+pub length-written : (s xs : List ℕ) (at : ℕ) → at + length xs ≤ length s → length (written s at xs) ≡ length s
+unfolding written
+length-written s xs at h = grind (arith, common_steps)
+
+-- the same of a text that grows
+pub adds_then : {t u v : Text} {xs ys : List ℕ} → t.len ≤ length t.buffer.now → Adds t u xs → Adds u v ys → Adds t v (xs ++ ys)
+adds_then h p q = record { put = and_then h p.put q.put; same_length = q.same_length ∙ p.same_length; same_buffer = q.same_buffer ∙ p.same_buffer }
+
+pub adds_same : {t u : Text} {xs ys : List ℕ} → xs ≡ ys → Adds t u xs → Adds t u ys
+adds_same {t = t} {u = u} e p = subst (λ z. Adds t u z) e p
+
 -- decimal digits, as std writes them
 pub decimal_is : (n : ℕ) → n < 1000 → std_decimal n ≡ decimal n
 unfolding decimal
@@ -92,46 +106,39 @@ pub text_more : (gray : ℕ → ℕ) (y x : ℕ) → text_before gray y (x + 1) 
 unfolding text_before
 text_more gray y x = rw add-one
 
--- the dots left of x are written at the front of the buffer, and end at a place
-pub record SoFar (gray : ℕ → ℕ) (y x : ℕ) (before after : List ℕ) (end : ℕ) : Type 0 where
-  pub put : Put before 0 (text_before gray y x) after end
-  pub short : end ≤ 11 * x
+-- the dots left of x are added to a text
+pub record SoFar (gray : ℕ → ℕ) (y x : ℕ) (before after : Text) : Type 0 where
+  pub added : Adds before after (text_before gray y x)
+  pub short : after.len ≤ before.len + 11 * x
 
-pub none_so_far : (gray : ℕ → ℕ) (y : ℕ) (before : List ℕ) → SoFar gray y 0 before before 0
+pub none_so_far : (gray : ℕ → ℕ) (y : ℕ) (t : Text) → t.len ≡ 0 → SoFar gray y 0 t t
 unfolding text_before
-none_so_far gray y before = record { put = record { text = sym (written_none before 0); ends = refl }; short = omega arith }
+none_so_far gray y t e =
+    let at : t.len + 0 ≡ t.len = omega arith in
+    let put : Put t.buffer.now t.len [] t.buffer.now t.len = record { text = sym (written_none t.buffer.now t.len); ends = sym at } in
+    record { added = record { put = put; same_length = refl; same_buffer = refl }; short = omega arith }
 
 -- a dot of gray 0 adds nothing
-pub dark_more : (gray : ℕ → ℕ) (y x g : ℕ) (before after : List ℕ) (end : ℕ) → g ≡ gray x → g ≤ 0
-    → SoFar gray y x before after end → SoFar gray y (x + 1) before after end
-dark_more gray y x g before after end e h s =
+pub dark_more : (gray : ℕ → ℕ) (y x g : ℕ) (t u : Text) → g ≡ gray x → g ≤ 0 → SoFar gray y x t u → SoFar gray y (x + 1) t u
+dark_more gray y x g t u e h s =
     let z : gray x ≡ 0 = omega arith in
     let same : text_before gray y x ≡ text_before gray y (x + 1) = sym (text_more gray y x ∙ ap (λ n. text_before gray y x ++ dot_text y x n) z ∙ append-nil (text_before gray y x)) in
     let m = s.short in
-    record { put = put_same same s.put; short = omega arith }
+    record { added = adds_same same s.added; short = omega arith }
 
 -- any other adds its line
-pub lit_more : (gray : ℕ → ℕ) (y x g : ℕ) (before after next : List ℕ) (at end : ℕ) → g ≡ gray x → 0 < g → g < 16
-    → SoFar gray y x before after at → Put after at (dot_line y x g) next end → SoFar gray y (x + 1) before next end
-lit_more gray y x g before after next at end e h k s p =
+pub lit_more : (gray : ℕ → ℕ) (y x g : ℕ) (t u v : Text) → g ≡ gray x → 0 < g → g < 16 → t.len ≤ length t.buffer.now
+    → SoFar gray y x t u → Adds u v (dot_line y x g) → SoFar gray y (x + 1) t v
+lit_more gray y x g t u v e h k room s a =
     let b : eqb g 0 ≡ false = ne_eqb g 0 (λ z. omega arith) in
     let line : dot_text y x (gray x) ≡ dot_line y x g = ap (dot_text y x) (sym e) ∙ cond-false (eqb g 0) _ _ b in
     let same : text_before gray y x ++ dot_line y x g ≡ text_before gray y (x + 1) = ap (λ l. text_before gray y x ++ l) (sym line) ∙ sym (text_more gray y x) in
     let m = s.short in
-    let n = p.ends in
-    record { put = put_same same (and_then (omega arith) s.put p); short = omega (arith, line_short y x g k) }
+    let n = a.put.ends in
+    record { added = adds_same same (adds_then room s.added a); short = omega (arith, line_short y x g k) }
 
--- the whole row
-pub all_so_far : (gray : ℕ → ℕ) (y x n : ℕ) (before after : List ℕ) (end : ℕ) → x ≡ n → SoFar gray y x before after end
-    → (end ≡ length (text_before gray y n)) × (after ≡ written before 0 (text_before gray y n))
-all_so_far gray y x n before after end e s =
-    let p : Put before 0 (text_before gray y n) after end = put_same (ap (text_before gray y) e) s.put in
-    let m = p.ends in
-    (omega arith, p.text)
-
-pub so_far_is : {gray : ℕ → ℕ} {y x : ℕ} {before after other : List ℕ} {end to : ℕ} → other ≡ after → to ≡ end → SoFar gray y x before after end → SoFar gray y x before other to
-so_far_is {gray = gray} {y = y} {x = x} {before = before} {other = other} {end = end} e f s =
-    subst (λ n. SoFar gray y x before other n) (sym f) (subst (λ b. SoFar gray y x before b end) (sym e) s)
+pub so_far_is : {gray : ℕ → ℕ} {y x : ℕ} {t u v : Text} → v ≡ u → SoFar gray y x t u → SoFar gray y x t v
+so_far_is {gray = gray} {y = y} {x = x} {t = t} e s = subst (λ w. SoFar gray y x t w) (sym e) s
 
 -- the front of the buffer, up to the end of what was put
 pub put_front : {s xs t : List ℕ} {at end : ℕ} → at ≤ length s → Put s at xs t end → take end t ≡ take at s ++ xs

@@ -8,4 +8,5 @@ pub mod Remap
 pub mod RowText
 pub mod RowTextCall
 pub mod Settings
+pub mod Text
 pub mod Wiring

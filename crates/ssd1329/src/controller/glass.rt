@@ -12,32 +12,26 @@ use refusal::Refusal;
 impl Registers {
     // The common that a pin carries.
     fn common(&self, pin: Position) -> Position
-        ensures { result.number ≡ common_on (settings self.now) pin.number }
+        ensures { result ≡ common_on (settings self.now) pin }
     {
         if self.remap & 0x40 == 0 {
-            return pin;
-        }
-        let pin = pin.number;
-        Below {
-            number: if pin < 64 {
-                2 * pin
-            } else {
-                2 * (pin - 64) + 1
-            },
+            pin
+        } else if pin.0 < 64 {
+            Below(2 * pin.0)
+        } else {
+            Below(2 * (pin.0 - 64) + 1)
         }
     }
 
     // The row that a common scans.
     fn row(&self, common: Position) -> Position
-        ensures { result.number ≡ row_of (settings self.now) common.number }
+        ensures { result ≡ row_of (settings self.now) common }
     {
-        let common = common.number;
-        let row = if self.remap & 0x10 == 0 {
-            common + self.offset
+        if self.remap & 0x10 == 0 {
+            Below((common.0 + self.offset) % 128)
         } else {
-            (self.mux + self.offset) % 128 + 128 - common
-        };
-        Below { number: row % 128 }
+            Below(((self.mux + self.offset) % 128 + 128 - common.0) % 128)
+        }
     }
 }
 
@@ -56,34 +50,31 @@ impl Controller {
 
     // What a segment shows in a row.
     fn cell(&self, segment: Position, row: Position) -> Gray
-        ensures { result.number ≡ cell (chip self.now) segment.number row.number }
+        ensures { result ≡ cell (chip self.now) segment row }
     {
-        if row.number > self.registers.mux {
-            return Below { number: 0 };
+        if row.0 > self.registers.mux {
+            return Below(0);
         }
-        let line = (row.number + self.registers.start) % 128;
-        let half = segment.number / 2;
+        let line = (row.0 + self.registers.start) % 128;
         let column = if self.registers.remap & 0x01 == 0 {
-            half
+            segment.0 / 2
         } else {
-            63 - half
+            63 - segment.0 / 2
         };
         let byte = self.memory[usize::from(line) * 64 + usize::from(column)];
-        Below {
-            number: if segment.number % 2 == 0 {
-                byte % 16
-            } else {
-                byte / 16
-            },
+        if segment.0 % 2 == 0 {
+            Below(byte % 16)
+        } else {
+            Below(byte / 16)
         }
     }
 
     #[tactic(auto, unfolding(crate::specs::Glass::glass))]
     pub(super) fn gray(&self, wiring: &Wiring, x: Position, y: Position) -> Gray
-        ensures { result.number ≡ glass (wires wiring.now) (chip self.now) x.number y.number }
+        ensures { result ≡ glass (wires wiring.now) (chip self.now) x y }
     {
         if self.astray || !self.awake {
-            return Below { number: 0 };
+            return Below(0);
         }
         let common = self.registers.common(wiring.pin(y));
         self.cell(wiring.segment(x), self.registers.row(common))
@@ -95,6 +86,6 @@ impl Controller {
     {
         let x = Position::try_from(x)?;
         let y = Position::try_from(y)?;
-        Ok(self.gray(wiring, x, y).number)
+        Ok(self.gray(wiring, x, y).0)
     }
 }

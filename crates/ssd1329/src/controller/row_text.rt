@@ -1,7 +1,7 @@
 // The text of a row of the glass: a line for each dot above 0.
 ghost use Rattle.std.specs.Prelude.{◌+◌, ◌≤◌, length};
 ghost use Rattle.ssd1329.specs.Meaning.{chip, wires};
-ghost use Rattle.ssd1329.specs.RowText.{decimal, dot_line, Put};
+ghost use Rattle.ssd1329.specs.RowText.{decimal, dot_line};
 ghost use Rattle.ssd1329.specs.RowTextCall.{RowWritten};
 
 use super::Controller;
@@ -13,36 +13,47 @@ use refusal::Refusal;
 // The longest text of a row: 128 lines of at most 11 bytes.
 const LONGEST_ROW: usize = 1408;
 
-// Writes bytes into the buffer at a place; the answer is where they end.
-fn put(out: &mut [u8], at: usize, bytes: &[u8]) -> usize
-    requires { at + length bytes.now ≤ length out.old }
-    ensures { Put out.old at bytes.now out.new result }
-{
-    let end = at + bytes.len();
-    out[at..end].copy_from_slice(bytes);
-    end
+// A text that grows at the front of a lent buffer.
+#[derive(Drop)]
+struct Text<'a> {
+    buffer: &'a mut [u8],
+    len: usize,
 }
 
-// Writes a number in decimal digits.
-fn put_decimal(out: &mut [u8], at: usize, n: u8) -> usize
-    requires { at + 3 ≤ length out.old }
-    ensures { Put out.old at (decimal n) out.new result }
-{
-    let mut digits = Buffer::new();
-    put(out, at, digits.format(n).as_bytes())
-}
+impl<'a> Text<'a> {
+    ghost use Rattle.ssd1329.specs.Text.{Adds};
 
-// Writes the line of a dot.
-fn put_dot(out: &mut [u8], at: usize, y: Position, x: Position, gray: Gray) -> usize
-    requires { at + 11 ≤ length out.old }
-    ensures { Put out.old at (dot_line y.number x.number gray.number) out.new result }
-{
-    let at = put_decimal(out, at, y.number);
-    let at = put(out, at, b"\t");
-    let at = put_decimal(out, at, x.number);
-    let at = put(out, at, b"\t");
-    let at = put_decimal(out, at, gray.number);
-    put(out, at, b"\n")
+    fn put(&mut self, bytes: &[u8])
+        requires { self.old.len + length bytes.now ≤ length self.old.buffer.now }
+        ensures { Adds self.old self.new bytes.now }
+    {
+        let end = self.len + bytes.len();
+        self.buffer[self.len..end].copy_from_slice(bytes);
+        self.len = end;
+    }
+
+    // A number in decimal digits.
+    fn put_decimal(&mut self, n: u8)
+        requires { self.old.len + 3 ≤ length self.old.buffer.now }
+        ensures { Adds self.old self.new (decimal n) }
+    {
+        let mut digits = Buffer::new();
+        self.put(digits.format(n).as_bytes());
+    }
+
+    // The line of a dot.
+    #[tactic(auto, using(crate::proofs::Texts::decimal_short, crate::proofs::Texts::decimal_below_100))]
+    fn put_dot(&mut self, y: Position, x: Position, gray: Gray)
+        requires { self.old.len + 11 ≤ length self.old.buffer.now }
+        ensures { Adds self.old self.new (dot_line y x gray) }
+    {
+        self.put_decimal(y.0);
+        self.put(b"\t");
+        self.put_decimal(x.0);
+        self.put(b"\t");
+        self.put_decimal(gray.0);
+        self.put(b"\n");
+    }
 }
 
 impl Controller {
@@ -55,14 +66,14 @@ impl Controller {
         if out.len() < LONGEST_ROW {
             return Err(Refusal::Memory);
         }
-        let mut at = 0;
+        let mut text = Text { buffer: out, len: 0 };
         for x in 0..128 {
-            let x = Below { number: x };
+            let x = Below(x);
             let gray = self.gray(wiring, x, row);
-            if gray.number > 0 {
-                at = put_dot(out, at, row, x, gray);
+            if gray.0 > 0 {
+                text.put_dot(row, x, gray);
             }
         }
-        Ok(at)
+        Ok(text.len)
     }
 }

@@ -8,44 +8,28 @@ use crate::below::{Below, Position};
 
 impl Wiring {
     pub(crate) fn segment(&self, x: Position) -> Position
-        ensures { result.number ≡ segment_of (wires self.now) x.number }
+        ensures { result ≡ segment_of (wires self.now) x }
     {
-        Below {
-            number: if self.mirrored {
-                127 - x.number
-            } else {
-                x.number
-            },
-        }
+        if self.mirrored { Below(127 - x.0) } else { x }
     }
 
     fn place(&self, y: Position) -> Position
-        ensures { result.number ≡ place_of (wires self.now) y.number }
+        ensures { result ≡ place_of (wires self.now) y }
     {
-        let y = if self.flipped {
-            127 - y.number
-        } else {
-            y.number
-        };
-        Below {
-            number: (y + self.shift) % 128,
-        }
+        let y = if self.flipped { 127 - y.0 } else { y.0 };
+        Below((y + self.shift) % 128)
     }
 
     pub(crate) fn pin(&self, y: Position) -> Position
-        ensures { result.number ≡ pin_of (wires self.now) y.number }
+        ensures { result ≡ pin_of (wires self.now) y }
     {
         let place = self.place(y);
         if !self.comb {
-            return place;
-        }
-        let half = place.number / 2;
-        Below {
-            number: if place.number % 2 == 0 {
-                half
-            } else {
-                64 + half
-            },
+            place
+        } else if place.0 % 2 == 0 {
+            Below(place.0 / 2)
+        } else {
+            Below(64 + place.0 / 2)
         }
     }
 }

@@ -4,4 +4,4 @@ use Rattle.ssd1329.proofs.Texts.{SoFar}
 use Rattle.ssd1329.proofs.controller.Controller.row_text.Given as goal
 
 abbrev pub invariant-loop-x : goal.invariant-loop-x
-invariant-loop-x l = SoFar (λ x. glass (wires l.wiring) (chip l.self) x l.row.number) l.row.number l.x l.initial.out l.out l.at
+invariant-loop-x l = SoFar (λ x. glass (wires l.wiring) (chip l.self) x l.row) l.row l.x l.initial.text l.text

@@ -1,6 +1,0 @@
-use Rattle.std.proofs.Common.{arith, ◌∙◌}
-use Rattle.ssd1329.proofs.Texts.{decimal_is, put_same}
-use Rattle.ssd1329.proofs.controller.row_text.put_decimal.Goals as goal
-
-pub returns : goal.returns
-returns c = put_same (c.as_bytes.ensures.value ∙ c.format.ensures.text ∙ decimal_is c.args.n (omega arith)) c.put.ensures

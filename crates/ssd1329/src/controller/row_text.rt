@@ -66,7 +66,10 @@ impl Controller {
         if out.len() < LONGEST_ROW {
             return Err(Refusal::Memory);
         }
-        let mut text = Text { buffer: out, len: 0 };
+        let mut text = Text {
+            buffer: out,
+            len: 0,
+        };
         for x in 0..128 {
             let x = Below(x);
             let gray = self.gray(wiring, x, row);

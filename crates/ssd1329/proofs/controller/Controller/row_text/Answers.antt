@@ -9,11 +9,6 @@ use Rattle.ssd1329.proofs.controller.Controller.row_text.Goals.{then-gray-gt0, e
 pub loop-x-init : goal.loop-x-init
 loop-x-init c = none_so_far _ _ _ refl
 
-pub put_dot-requires : goal.put_dot-requires
-put_dot-requires c =
-    let so_far = c.loop-x.invariant in
-    omega (arith, so_far.short, so_far.added.same_length)
-
 pub loop-x-preserved : goal.loop-x-preserved
 loop-x-preserved c =
     let gray : ℕ → ℕ = λ x. glass (wires c.args.wiring.now) (chip c.args.self.now) x c.in_ok-row.row in

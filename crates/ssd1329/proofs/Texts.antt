@@ -1,8 +1,8 @@
 -- How texts are written into a buffer, one after the other, and how long they are.
-use Rattle.std.proofs.Common.{◌≡◌, ℕ, ◌+◌, ◌*◌, ◌<◌, ◌≤◌, Bool, true, false, cond, eqb, ltb, List, [], ◌++◌, length, take, drop, sym, refl, ap, ◌∙◌, subst, add-one, arith, lit≤, length-append, length-take}
+use Rattle.std.proofs.Common.{◌≡◌, ℕ, ◌+◌, ◌*◌, ◌<◌, ◌≤◌, false, eqb, List, [], ◌++◌, length, take, drop, sym, refl, ap, ◌∙◌, subst, add-one, arith, length-append}
 use borrow.Rule.Slice.PartMut.{put_mid}
-use Rattle.std.proofs.lemmas.List.{append_assoc, append-nil, take-append-drop, take_at, drop_at, drop-drop}
-use Rattle.std.proofs.lemmas.Bool.{lt-ltb, cond-false, ne_eqb}
+use Rattle.std.proofs.lemmas.List.{append_assoc, append-nil, drop-drop}
+use Rattle.std.proofs.lemmas.Bool.{cond-false, ne_eqb}
 use Rattle.std.proofs.lemmas.Bool.Decides.{nat_tests}
 use Rattle.std.proofs.lemmas.Grind.{common_steps}
 use Rattle.std.proofs.lemmas.Fmt.{decimal_digit, decimal_step}
@@ -14,45 +14,29 @@ use Rattle.ssd1329.specs.Text.{Adds}
 -- what a copy into a part of the buffer leaves
 pub put_written : (s ys zs : List ℕ) (at k : ℕ) → ys ≡ zs → k ≡ length zs → put_mid at k s ys ≡ written s at zs
 unfolding written
-put_written s ys zs at k e h =
-    ap (λ x. take at s ++ (x ++ drop k (drop at s))) e
-    ∙ ap (λ x. take at s ++ (zs ++ x)) (drop-drop k at s ∙ ap (λ n. drop (at + n) s) h)
+put_written s ys zs at k e h = grind (arith, common_steps)
 
 -- nothing written
 pub written_none : (s : List ℕ) (at : ℕ) → written s at [] ≡ s
 unfolding written
-written_none s at =
-    let e : at + 0 ≡ at = omega arith in
-    ap (λ n. take at s ++ drop n s) e ∙ take-append-drop at s
-
-front_length : (s xs : List ℕ) (at : ℕ) → at ≤ length s → length (take at s ++ xs) ≡ at + length xs
-front_length s xs at h = omega (arith, length-append (take at s) xs, length-take at s)
+written_none s at = grind (arith, common_steps)
 
 -- the front of the buffer up to the end of what was written, and what stands after it
 take_written : (s xs : List ℕ) (at : ℕ) → at ≤ length s → take (at + length xs) (written s at xs) ≡ take at s ++ xs
 unfolding written
-take_written s xs at h =
-    ap (take (at + length xs)) (sym (append_assoc (take at s) xs (drop (at + length xs) s)))
-    ∙ take_at (take at s ++ xs) (drop (at + length xs) s) (at + length xs) (front_length s xs at h)
+take_written s xs at h = grind (arith, common_steps)
 
 drop_written : (s xs : List ℕ) (at n : ℕ) → at ≤ length s → drop (at + length xs + n) (written s at xs) ≡ drop (at + length xs + n) s
 unfolding written
 drop_written s xs at n h =
-    ap (drop (at + length xs + n)) (sym (append_assoc (take at s) xs (drop (at + length xs) s)))
-    ∙ sym (drop-drop n (at + length xs) ((take at s ++ xs) ++ drop (at + length xs) s))
-    ∙ ap (drop n) (drop_at (take at s ++ xs) (drop (at + length xs) s) (at + length xs) (front_length s xs at h))
-    ∙ drop-drop n (at + length xs) s
+    let front = take at s ++ xs in
+    let rest = drop (at + length xs) s in
+    grind (arith, common_steps, append_assoc (take at s) xs rest, drop-drop n (at + length xs) (front ++ rest))
 
 -- one text after another is their joint text
 pub written_then : (s xs ys : List ℕ) (at : ℕ) → at ≤ length s → written (written s at xs) (at + length xs) ys ≡ written s at (xs ++ ys)
 unfolding written
-written_then s xs ys at h =
-    let long : at + length xs + length ys ≡ at + length (xs ++ ys) = omega (arith, length-append xs ys) in
-    ap (λ t. t ++ (ys ++ drop (at + length xs + length ys) (written s at xs))) (take_written s xs at h)
-    ∙ ap (λ d. (take at s ++ xs) ++ (ys ++ d)) (drop_written s xs at (length ys) h)
-    ∙ ap (λ n. (take at s ++ xs) ++ (ys ++ drop n s)) long
-    ∙ append_assoc (take at s) xs (ys ++ drop (at + length (xs ++ ys)) s)
-    ∙ ap (λ t. take at s ++ t) (sym (append_assoc xs ys (drop (at + length (xs ++ ys)) s)))
+written_then s xs ys at h = grind (arith, common_steps, take_written s xs at h, drop_written s xs at (length ys) h)
 
 -- the same, as two puts make one
 pub and_then : {s t u xs ys : List ℕ} {at to end : ℕ} → at ≤ length s → Put s at xs t to → Put t to ys u end → Put s at (xs ++ ys) u end
@@ -82,24 +66,18 @@ pub decimal_is : (n : ℕ) → n < 1000 → std_decimal n ≡ decimal n
 unfolding decimal
 decimal_is n h = grind (arith, nat_tests, decimal_digit, decimal_step)
 
-cond_short : (b : Bool) (xs ys : List ℕ) (n : ℕ) → length xs ≤ n → length ys ≤ n → length (cond b xs ys) ≤ n
-cond_short true xs ys n h k = h
-cond_short false xs ys n h k = k
-
 pub decimal_short : (n : ℕ) → length (decimal n) ≤ 3
 unfolding decimal
-decimal_short n = cond_short (ltb n 10) _ _ 3 (lit≤ tt) (cond_short (ltb n 100) _ _ 3 (lit≤ tt) (lit≤ tt))
+decimal_short n = grind (arith, nat_tests)
 
 pub decimal_below_100 : (n : ℕ) → n < 100 → length (decimal n) ≤ 2
 unfolding decimal
-decimal_below_100 n h = rw (lt-ltb n 100 h) (cond_short (ltb n 10) _ _ 2 (lit≤ tt) (lit≤ tt))
+decimal_below_100 n h = grind (arith, nat_tests, common_steps)
 
 -- a line takes at most 11 bytes
 pub line_short : (y x gray : ℕ) → gray < 16 → length (dot_line y x gray) ≤ 11
 unfolding dot_line
-line_short y x gray h =
-    let two : length (decimal gray) ≤ 2 = decimal_below_100 gray (omega arith) in
-    simp length-append (omega (arith, decimal_short y, decimal_short x))
+line_short y x gray h = grind (arith, common_steps, decimal_short y, decimal_short x, decimal_below_100 gray)
 
 -- one dot more
 pub text_more : (gray : ℕ → ℕ) (y x : ℕ) → text_before gray y (x + 1) ≡ text_before gray y x ++ dot_text y x (gray x)

@@ -3,6 +3,7 @@ ghost use Rattle.ssd1329.specs.Wiring.{EveryWiringShowsTheMemory};
 ghost use Rattle.ssd1329.specs.Examples.{WorkedExamples};
 
 // With the settings that it needs, a module shows its memory, however it is wired.
+#[tactic(auto, using(crate::proofs::Upright::upright))]
 pub fn every_wiring_shows_the_memory() -> u8
     ensures { EveryWiringShowsTheMemory }
 {

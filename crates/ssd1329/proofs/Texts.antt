@@ -1,8 +1,7 @@
 -- How texts are written into a buffer, one after the other, and how long they are.
-use Rattle.std.proofs.Common.{◌≡◌, ℕ, ◌+◌, ◌*◌, ◌<◌, ◌≤◌, false, eqb, List, [], ◌++◌, length, take, drop, sym, refl, ap, ◌∙◌, subst, add-one, arith, length-append}
+use Rattle.std.proofs.Common.{◌≡◌, ℕ, ◌+◌, ◌*◌, ◌<◌, ◌≤◌, List, [], ◌++◌, length, take, drop, sym, refl, ap, ◌∙◌, subst, add-one, arith}
 use borrow.Rule.Slice.PartMut.{put_mid}
-use Rattle.std.proofs.lemmas.List.{append_assoc, append-nil, drop-drop}
-use Rattle.std.proofs.lemmas.Bool.{cond-false, ne_eqb}
+use Rattle.std.proofs.lemmas.List.{append_assoc, drop-drop}
 use Rattle.std.proofs.lemmas.Bool.Decides.{nat_tests}
 use Rattle.std.proofs.lemmas.Grind.{common_steps}
 use Rattle.std.proofs.lemmas.Fmt.{decimal_digit, decimal_step}
@@ -41,10 +40,7 @@ written_then s xs ys at h = grind (arith, common_steps, take_written s xs at h, 
 -- the same, as two puts make one
 pub and_then : {s t u xs ys : List ℕ} {at to end : ℕ} → at ≤ length s → Put s at xs t to → Put t to ys u end → Put s at (xs ++ ys) u end
 and_then {s = s} {t = t} {u = u} {xs = xs} {ys = ys} {at = at} {to = to} h p q =
-    record {
-      text = q.text ∙ ap (λ b. written b to ys) p.text ∙ ap (λ n. written (written s at xs) n ys) p.ends ∙ written_then s xs ys at h;
-      ends = (let e = p.ends in let f = q.ends in omega (arith, length-append xs ys));
-    }
+    record { text = grind (arith, written_then s xs ys at h, p.text, p.ends, q.text); ends = grind (arith, common_steps, p.ends, q.ends) }
 
 -- the same text, spelled otherwise
 pub put_same : {s t xs ys : List ℕ} {at end : ℕ} → xs ≡ ys → Put s at xs t end → Put s at ys t end
@@ -92,28 +88,18 @@ pub record SoFar (gray : ℕ → ℕ) (y x : ℕ) (before after : Text) : Type 0
 pub none_so_far : (gray : ℕ → ℕ) (y : ℕ) (t : Text) → t.len ≡ 0 → SoFar gray y 0 t t
 unfolding text_before
 none_so_far gray y t e =
-    let at : t.len + 0 ≡ t.len = omega arith in
-    let put : Put t.buffer.now t.len [] t.buffer.now t.len = record { text = sym (written_none t.buffer.now t.len); ends = sym at } in
-    record { added = record { put = put; same_length = refl; same_buffer = refl }; short = omega arith }
+    record { added = record { put = record { text = sym (written_none t.buffer.now t.len); ends = omega arith }; same_length = refl; same_buffer = refl }; short = omega arith }
 
 -- a dot of gray 0 adds nothing
 pub dark_more : (gray : ℕ → ℕ) (y x g : ℕ) (t u : Text) → g ≡ gray x → g ≤ 0 → SoFar gray y x t u → SoFar gray y (x + 1) t u
 dark_more gray y x g t u e h s =
-    let z : gray x ≡ 0 = omega arith in
-    let same : text_before gray y x ≡ text_before gray y (x + 1) = sym (text_more gray y x ∙ ap (λ n. text_before gray y x ++ dot_text y x n) z ∙ append-nil (text_before gray y x)) in
-    let m = s.short in
-    record { added = adds_same same s.added; short = omega arith }
+    record { added = adds_same (grind (arith, nat_tests, common_steps, text_more gray y x)) s.added; short = omega (arith, s.short) }
 
 -- any other adds its line
 pub lit_more : (gray : ℕ → ℕ) (y x g : ℕ) (t u v : Text) → g ≡ gray x → 0 < g → g < 16 → t.len ≤ length t.buffer.now
     → SoFar gray y x t u → Adds u v (dot_line y x g) → SoFar gray y (x + 1) t v
 lit_more gray y x g t u v e h k room s a =
-    let b : eqb g 0 ≡ false = ne_eqb g 0 (λ z. omega arith) in
-    let line : dot_text y x (gray x) ≡ dot_line y x g = ap (dot_text y x) (sym e) ∙ cond-false (eqb g 0) _ _ b in
-    let same : text_before gray y x ++ dot_line y x g ≡ text_before gray y (x + 1) = ap (λ l. text_before gray y x ++ l) (sym line) ∙ sym (text_more gray y x) in
-    let m = s.short in
-    let n = a.put.ends in
-    record { added = adds_same same (adds_then room s.added a); short = omega (arith, line_short y x g k) }
+    record { added = adds_same (grind (arith, nat_tests, text_more gray y x)) (adds_then room s.added a); short = omega (arith, s.short, a.put.ends, line_short y x g k) }
 
 pub so_far_is : {gray : ℕ → ℕ} {y x : ℕ} {t u v : Text} → v ≡ u → SoFar gray y x t u → SoFar gray y x t v
 so_far_is {gray = gray} {y = y} {x = x} {t = t} e s = subst (λ w. SoFar gray y x t w) (sym e) s

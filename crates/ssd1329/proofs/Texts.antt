@@ -46,9 +46,9 @@ and_then {s = s} {t = t} {u = u} {xs = xs} {ys = ys} {at = at} {to = to} h p q =
 pub put_same : {s t xs ys : List ℕ} {at end : ℕ} → xs ≡ ys → Put s at xs t end → Put s at ys t end
 put_same {s = s} {t = t} {at = at} {end = end} e p = subst (λ z. Put s at z t end) e p
 
-pub length-written : (s xs : List ℕ) (at : ℕ) → at + length xs ≤ length s → length (written s at xs) ≡ length s
+pub written_long : (s xs : List ℕ) (at : ℕ) → at + length xs ≤ length s → length (written s at xs) ≡ length s
 unfolding written
-length-written s xs at h = grind (arith, common_steps)
+written_long s xs at h = grind (arith, common_steps)
 
 -- the same of a text that grows
 pub adds_then : {t u v : Text} {xs ys : List ℕ} → t.len ≤ length t.buffer.now → Adds t u xs → Adds u v ys → Adds t v (xs ++ ys)

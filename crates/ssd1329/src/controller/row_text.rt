@@ -23,6 +23,7 @@ struct Text<'a> {
 impl<'a> Text<'a> {
     ghost use Rattle.ssd1329.specs.Text.{Adds};
 
+    #[tactic(auto, using(crate::proofs::Texts::put_written, crate::proofs::Texts::written_long))]
     fn put(&mut self, bytes: &[u8])
         requires { self.old.len + length bytes.now ≤ length self.old.buffer.now }
         ensures { Adds self.old self.new bytes.now }
@@ -33,6 +34,7 @@ impl<'a> Text<'a> {
     }
 
     // A number in decimal digits.
+    #[tactic(auto, using(crate::proofs::Texts::decimal_is))]
     fn put_decimal(&mut self, n: u8)
         requires { self.old.len + 3 ≤ length self.old.buffer.now }
         ensures { Adds self.old self.new (decimal n) }

@@ -9,28 +9,23 @@ use std::test::Fail;
 
 // A controller at reset over bytes of one value.
 fn filled(heap: Global, byte: u8) -> Result<Controller, Fail> {
-    match Controller::new(vec![in heap; byte; 8192]?) {
-        Ok(c) => Ok(c),
-        Err(_) => Err(Fail::new("8192 bytes refused")),
-    }
+    Ok(Controller::new(vec![in heap; byte; 8192]?).map_err(Refusal::from)?)
 }
 
 fn commands(c: &mut Controller, bytes: &[u8]) {
-    for b in bytes {
-        c.step(Transfer::Command(*b));
+    for &b in bytes {
+        c.step(Transfer::Command(b));
     }
 }
 
 #[test]
 fn only_8192_bytes_are_a_memory(rt: HostRuntime) -> Result<(), Fail> {
-    match Controller::new(vec![in rt.alloc(); 7u8; 8191]?) {
-        Ok(_) => Err(Fail::new("8191 bytes taken")),
-        Err(back) => {
-            assert_eq!(rt; back.refusal, Refusal::Memory);
-            assert_eq!(rt; back.value.len(), 8191);
-            Ok(())
-        }
-    }
+    let Err(back) = Controller::new(vec![in rt.alloc(); 7u8; 8191]?) else {
+        return Err(Fail::new("8191 bytes taken"));
+    };
+    assert_eq!(rt; back.refusal, Refusal::Memory);
+    assert_eq!(rt; back.value.len(), 8191);
+    Ok(())
 }
 
 #[test]
@@ -46,25 +41,19 @@ fn a_blank_controller_is_dark_and_then_shows_zeros(rt: HostRuntime) -> Result<()
 #[test]
 fn a_shift_above_127_is_refused(rt: HostRuntime) -> Result<(), Fail> {
     assert!(rt; Wiring::new(true, true, true, 127).is_ok());
-    match Wiring::new(false, false, false, 128) {
-        Ok(_) => Err(Fail::new("shift 128 taken")),
-        Err(e) => {
-            assert_eq!(rt; e.number(), 11);
-            Ok(())
-        },
-    }
+    let Err(e) = Wiring::new(false, false, false, 128) else {
+        return Err(Fail::new("shift 128 taken"));
+    };
+    assert_eq!(rt; e.number(), 11);
+    Ok(())
 }
 
 #[test]
 fn a_wiring_needs_its_settings(rt: HostRuntime) -> Result<(), Fail> {
-    let Ok(w) = Wiring::new(true, true, true, 5) else {
-        return Err(Fail::new("refused"));
-    };
+    let w = Wiring::new(true, true, true, 5)?;
     assert_eq!(rt; w.remap(), 0x53);
     assert_eq!(rt; w.offset(), 5);
-    let Ok(w) = Wiring::new(false, false, false, 5) else {
-        return Err(Fail::new("refused"));
-    };
+    let w = Wiring::new(false, false, false, 5)?;
     assert_eq!(rt; w.remap(), 0);
     assert_eq!(rt; w.offset(), 123);
     Ok(())

@@ -7,6 +7,7 @@ mod below;
 pub mod commands;
 mod controller;
 mod laws;
+mod remap;
 mod shows;
 #[cfg(test)]
 mod tests;

@@ -13,10 +13,10 @@ pub enum Shows {
 
 impl fmt::Display for Shows {
     fn fmt<W: fmt::Write>(&self, f: &mut fmt::Formatter<W>) -> fmt::Result {
-        match self {
-            Shows::Astray => write!(f, "astray"),
-            Shows::Dark => write!(f, "dark"),
-            Shows::Lit => write!(f, "lit"),
-        }
+        f.write_str(match self {
+            Shows::Astray => "astray",
+            Shows::Dark => "dark",
+            Shows::Lit => "lit",
+        })
     }
 }

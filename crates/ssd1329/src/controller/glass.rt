@@ -1,20 +1,29 @@
 // What the glass shows.
 ghost use Rattle.std.specs.Prelude.{◌≡◌};
 ghost use Rattle.ssd1329.specs.Meaning.{chip, settings, wires};
+ghost use Rattle.ssd1329.specs.Remap.{has};
 ghost use Rattle.ssd1329.specs.Glass.{common_on, row_of, cell, glass, glass_answer, shown};
 
 use super::{Controller, Registers};
 use crate::below::{Below, Gray, Position};
+use crate::remap;
 use crate::shows::Shows;
 use crate::wiring::Wiring;
 use refusal::Refusal;
 
 impl Registers {
+    // Whether a bit of the re-map byte is set.
+    pub(super) fn has(&self, bit: u8) -> bool
+        ensures { result ≡ has self.now.remap bit }
+    {
+        self.remap & bit != 0
+    }
+
     // The common that a pin carries.
     fn common(&self, pin: Position) -> Position
         ensures { result ≡ common_on (settings self.now) pin }
     {
-        if self.remap & 0x40 == 0 {
+        if !self.has(remap::COMMONS_SPLIT) {
             pin
         } else if pin.0 < 64 {
             Below(2 * pin.0)
@@ -27,7 +36,7 @@ impl Registers {
     fn row(&self, common: Position) -> Position
         ensures { result ≡ row_of (settings self.now) common }
     {
-        if self.remap & 0x10 == 0 {
+        if !self.has(remap::COMMONS_REVERSED) {
             Below((common.0 + self.offset) % 128)
         } else {
             Below(((self.mux + self.offset) % 128 + 128 - common.0) % 128)
@@ -56,7 +65,7 @@ impl Controller {
             return Below(0);
         }
         let line = (row.0 + self.registers.start) % 128;
-        let column = if self.registers.remap & 0x01 == 0 {
+        let column = if !self.registers.has(remap::COLUMNS_REVERSED) {
             segment.0 / 2
         } else {
             63 - segment.0 / 2

@@ -1,31 +1,16 @@
 // What a transfer does, by the rules in their order.
 ghost use Rattle.std.specs.Prelude.{◌≡◌, true, Some, None};
-ghost use Rattle.ssd1329.specs.Meaning.{chip, settings};
-ghost use Rattle.ssd1329.specs.Remap.{halves_swapped, runs_down};
+ghost use Rattle.ssd1329.specs.Meaning.{chip};
 ghost use Rattle.ssd1329.specs.Chip.{swapped, put, stored, lost, awaiting, asleep_or_awake, opcode_met, command_met, data_met, met, step};
 
-use super::{Awaited, Controller, Pointer, Registers};
-use crate::commands;
+use super::{Awaited, Controller, Pointer};
 use crate::transfer::Transfer;
+use crate::{commands, remap};
 
 fn swapped(b: u8) -> u8
     ensures { result ≡ swapped b }
 {
-    b % 16 * 16 + b / 16
-}
-
-impl Registers {
-    fn swaps_halves(&self) -> bool
-        ensures { result ≡ halves_swapped (settings self.now) }
-    {
-        self.remap & 0x02 != 0
-    }
-
-    fn runs_down(&self) -> bool
-        ensures { result ≡ runs_down (settings self.now) }
-    {
-        self.remap & 0x04 != 0
-    }
+    b.rotate_left(4)
 }
 
 impl Controller {
@@ -34,13 +19,13 @@ impl Controller {
         ensures { chip self.new ≡ put (chip self.old) b }
     {
         let at = self.window.lines.at as usize * 64 + self.window.columns.at as usize;
-        let byte = if self.registers.swaps_halves() {
+        let byte = if self.registers.has(remap::HALVES_SWAPPED) {
             swapped(b)
         } else {
             b
         };
         self.memory[at] = byte;
-        self.window.advance(self.registers.runs_down());
+        self.window.advance(self.registers.has(remap::RUNS_DOWN));
         self.held = None;
     }
 
@@ -101,7 +86,7 @@ impl Controller {
             Awaited::LastLine(first) if first <= b && b <= 127 => self.window.lines = Pointer::new(
                 first, b,
             ),
-            Awaited::Remap if b & 0xA8 == 0 => self.registers.remap = b,
+            Awaited::Remap if b & remap::UNUSED == 0 => self.registers.remap = b,
             Awaited::StartLine if b <= 127 => self.registers.start = b,
             Awaited::Offset if b <= 127 => self.registers.offset = b,
             Awaited::Mux if 15 <= b && b <= 127 => self.registers.mux = b,

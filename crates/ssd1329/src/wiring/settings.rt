@@ -4,16 +4,20 @@ ghost use Rattle.ssd1329.specs.Meaning.{wires};
 ghost use Rattle.ssd1329.specs.Wiring.{settings_for};
 
 use super::Wiring;
+use crate::remap::{COLUMNS_REVERSED, COMMONS_REVERSED, COMMONS_SPLIT, HALVES_SWAPPED};
+
+// Columns from the right, and so the halves of a byte exchanged.
+const MIRRORED: u8 = COLUMNS_REVERSED | HALVES_SWAPPED;
 
 impl Wiring {
     // The re-map byte under which the glass shows the memory upright.
     pub fn remap(&self) -> u8
         ensures { result ≡ (settings_for (wires self.now)).remap }
     {
-        let mirrored = if self.mirrored { 0x03 } else { 0 };
-        let flipped = if self.flipped { 0x10 } else { 0 };
-        let comb = if self.comb { 0x40 } else { 0 };
-        mirrored + flipped + comb
+        let mirrored = if self.mirrored { MIRRORED } else { 0 };
+        let flipped = if self.flipped { COMMONS_REVERSED } else { 0 };
+        let comb = if self.comb { COMMONS_SPLIT } else { 0 };
+        mirrored | flipped | comb
     }
 
     // The offset that takes back the shift.

@@ -1,14 +1,12 @@
 -- A text that was read to its end.
-use Rattle.std.proofs.Common.{◌≡◌, ℕ, List, [], ◌∷◌, ◌++◌, length, take, sym, refl, ap, ◌∙◌, ⊎_elim, arith}
+use Rattle.std.proofs.Common.{◌≡◌, ℕ, List, [], ◌∷◌, ◌++◌, length, take, sym, refl, ap, ◌∙◌, arith}
 use Rattle.std.proofs.lemmas.List.{take_all}
 use Rattle.ssd1329.specs.Chip.{Chip}
 use Rattle.listing.specs.declared.record.Record.{Record}
 use Rattle.listing.specs.declared.reader.Reader.{Reader}
-use Rattle.listing.specs.Listing.{RefusedAt}
 use Rattle.listing.specs.ReadBack.{listed, lines}
 use Rattle.listing.specs.Reading.{Ended}
 use Rattle.listing.specs.Replay.{met, replayed, Replayed, Listing}
-use Rattle.listing.proofs.Back.{not_both}
 
 pub none_replayed : (c : Chip) (s : List ℕ) (at : ℕ) → at ≡ 0 → c ≡ replayed c (listed (take at s))
 unfolding replayed listed lines
@@ -36,9 +34,3 @@ pub whole_replayed : (x : Reader) (s : List ℕ) (to : ℕ) (before after : Chip
 unfolding whole
 whole_replayed x s to before after e d m =
     record { listing = whole x s to e d; meets = m ∙ ap (λ b. replayed before (listed (take x.at b))) (sym e) }
-
--- a listing is refused nowhere
-pub never_refused : (s : List ℕ) (p : ℕ) → Listing s → RefusedAt s p → ⊥
-never_refused s p l r =
-    let h = l.short in
-    ⊎_elim (λ a. (let b = a.0 in omega arith)) (λ b. not_both s p l.records b.1 l.lists) r

@@ -1,4 +1,5 @@
 pub mod Listing
+pub mod Octets
 pub mod ReadBack
 pub mod Reading
 pub mod Replay

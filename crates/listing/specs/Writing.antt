@@ -13,6 +13,11 @@ legal (Open n) = nat_lt 0 n && nat_lt n 10000
 legal (Sent t) = true
 legal Close = true
 
+-- what a copy of bytes to a place answers and leaves: a buffer that is too short stays as it was
+abbrev pub PutAnswer : List ℕ → ℕ → List ℕ → List ℕ → Result ℕ Refusal → Type 0
+PutAnswer before at bytes after (Ok end) = (at + length bytes ≤ length before) × Put before at bytes after end
+PutAnswer before at bytes after (Err e) = (length before < at + length bytes) × (e ≡ Memory) × (after ≡ before)
+
 -- the line stands in the buffer, which is otherwise as it was, and the answer is where it ends
 pub record Written (before : List ℕ) (at : ℕ) (r : Record) (after : List ℕ) (end : ℕ) : Type 0 where
   pub lawful : legal r ≡ true

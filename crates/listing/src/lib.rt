@@ -14,6 +14,7 @@ mod view_text;
 mod writer;
 
 pub use laws::listings_are_plain;
+pub use lines::octet;
 pub use reader::Reader;
 pub use reads::{check, replay};
 pub use record::Record;

@@ -13,13 +13,8 @@ pub fn check(text: &[u8]) -> Result<(), BadListing>
     ensures { Checked text.now result }
 {
     let mut reader = Reader::new(text);
-    loop {
-        match reader.next() {
-            Ok(Some(_)) => {}
-            Ok(None) => return Ok(()),
-            Err(bad) => return Err(bad),
-        }
-    }
+    while reader.next()?.is_some() {}
+    Ok(())
 }
 
 fn meet(controller: &mut Controller, r: Record)
@@ -38,11 +33,8 @@ pub fn replay(text: &[u8], controller: &mut Controller) -> Result<(), BadListing
 {
     check(text)?;
     let mut reader = Reader::new(text);
-    loop {
-        match reader.next() {
-            Ok(Some(r)) => meet(controller, r),
-            Ok(None) => return Ok(()),
-            Err(bad) => return Err(bad),
-        }
+    while let Some(r) = reader.next()? {
+        meet(controller, r);
     }
+    Ok(())
 }

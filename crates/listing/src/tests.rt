@@ -1,4 +1,5 @@
 // Edges of the format; docs/LISTING.md has each way in which a line is bad.
+use crate::lines::octet;
 use crate::reads::{check as checked, replay};
 use crate::record::Record;
 use crate::writer::write_record;
@@ -54,6 +55,18 @@ fn a_bad_text_gives_nothing(rt: HostRuntime) -> Result<(), Fail> {
     assert!(rt; replay(b"O\t0009\nC\tAF\nZ\n", &mut c).is_ok());
     assert_eq!(rt; c.shows(), Shows::Lit);
     Ok(())
+}
+
+#[test]
+fn two_digits_write_a_byte(rt: HostRuntime) {
+    assert_eq!(rt; octet(b'0', b'9'), Some(9));
+    assert_eq!(rt; octet(b'5', b'A'), Some(90));
+    assert_eq!(rt; octet(b'F', b'F'), Some(255));
+    assert_eq!(rt; octet(b'a', b'0'), None);
+    assert_eq!(rt; octet(b'0', b'G'), None);
+    assert_eq!(rt; octet(b'/', b'0'), None);
+    assert_eq!(rt; octet(b'0', b':'), None);
+    assert_eq!(rt; octet(b'@', b'0'), None);
 }
 
 #[test]

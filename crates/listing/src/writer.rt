@@ -1,9 +1,8 @@
 // Writing one record.
-ghost use Rattle.std.specs.Prelude.{◌≡◌, ◌+◌, ◌<◌, ◌≤◌, length, take};
-ghost use Rattle.listing.specs.Listing.{hex, line, wide};
-ghost use Rattle.listing.specs.Writing.{legal, RecordWritten};
+ghost use Rattle.std.specs.Prelude.{◌≡◌, ◌<◌};
+ghost use Rattle.listing.specs.Listing.{hex};
+ghost use Rattle.listing.specs.Writing.{legal, PutAnswer, RecordWritten};
 
-use crate::lines::width;
 use crate::record::Record;
 use refusal::Refusal;
 use ssd1329::Transfer;
@@ -13,42 +12,6 @@ fn hex_char(d: u8) -> u8
     ensures { result ≡ hex d }
 {
     if d < 10 { b'0' + d } else { b'A' - 10 + d }
-}
-
-// The line of a record, at the front of seven bytes.
-fn spell(r: Record) -> [u8; 7]
-    ensures { take (wide r) result ≡ line r }
-{
-    match r {
-        Record::Open(n) => [
-            b'O',
-            b'\t',
-            b'0' + (n / 1000 % 10) as u8,
-            b'0' + (n / 100 % 10) as u8,
-            b'0' + (n / 10 % 10) as u8,
-            b'0' + (n % 10) as u8,
-            b'\n',
-        ],
-        Record::Sent(Transfer::Command(b)) => [
-            b'C',
-            b'\t',
-            hex_char(b / 16),
-            hex_char(b % 16),
-            b'\n',
-            0,
-            0,
-        ],
-        Record::Sent(Transfer::Data(b)) => [
-            b'D',
-            b'\t',
-            hex_char(b / 16),
-            hex_char(b % 16),
-            b'\n',
-            0,
-            0,
-        ],
-        Record::Close => [b'Z', b'\n', 0, 0, 0, 0, 0],
-    }
 }
 
 // Whether a line can show the record: a grant is 1 to 9,999.
@@ -61,6 +24,18 @@ fn is_legal(r: Record) -> bool
     }
 }
 
+// Copies bytes to a place in the buffer; the answer is where they end.
+fn put(out: &mut [u8], at: usize, bytes: &[u8]) -> Result<usize, Refusal>
+    ensures { PutAnswer out.old at bytes.now out.new result }
+{
+    let n = bytes.len();
+    if out.len() < n || out.len() - n < at {
+        return Err(Refusal::Memory);
+    }
+    out[at..at + n].copy_from_slice(bytes);
+    Ok(at + n)
+}
+
 // Writes the line of a record into the buffer at a place; the answer is where it ends.
 // A grant outside 1 to 9,999 is refused, then a buffer that is too short.
 pub fn write_record(out: &mut [u8], at: usize, r: Record) -> Result<usize, Refusal>
@@ -69,11 +44,33 @@ pub fn write_record(out: &mut [u8], at: usize, r: Record) -> Result<usize, Refus
     if !is_legal(r) {
         return Err(Refusal::SlotSize);
     }
-    let n = width(r);
-    if out.len() < n || out.len() - n < at {
-        return Err(Refusal::Memory);
+    match r {
+        Record::Open(n) => {
+            put(
+                out,
+                at,
+                &[
+                    b'O',
+                    b'\t',
+                    b'0' + (n / 1000 % 10) as u8,
+                    b'0' + (n / 100 % 10) as u8,
+                    b'0' + (n / 10 % 10) as u8,
+                    b'0' + (n % 10) as u8,
+                    b'\n',
+                ],
+            )
+        }
+        Record::Sent(t) => {
+            let (letter, b) = match t {
+                Transfer::Command(b) => (b'C', b),
+                Transfer::Data(b) => (b'D', b),
+            };
+            put(
+                out,
+                at,
+                &[letter, b'\t', hex_char(b / 16), hex_char(b % 16), b'\n'],
+            )
+        }
+        Record::Close => put(out, at, b"Z\n"),
     }
-    let line = spell(r);
-    out[at..at + n].copy_from_slice(&line[0..n]);
-    Ok(at + n)
 }

@@ -32,12 +32,9 @@ impl<'a> Reader<'a> {
         if self.at >= self.text.len() {
             return Ok(None);
         }
-        let Some(record) = first_record(&self.text[self.at..]) else {
-            return Err(BadListing { place: self.at });
-        };
-        let Some(slot) = follow(self.slot, record) else {
-            return Err(BadListing { place: self.at });
-        };
+        let bad = BadListing { place: self.at };
+        let record = first_record(&self.text[self.at..]).ok_or(bad)?;
+        let slot = follow(self.slot, record).ok_or(bad)?;
         self.at += width(record);
         self.slot = slot;
         Ok(Some(record))

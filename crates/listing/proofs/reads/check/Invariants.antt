@@ -1,8 +1,8 @@
 use Rattle.std.proofs.Common.{◌≡◌, ◌-◌, length}
 use Rattle.listing.proofs.reads.check.Given as goal
 
-abbrev pub invariant-loop-bad : goal.invariant-loop-bad
-invariant-loop-bad l = l.reader.text.now ≡ l.text
+abbrev pub invariant-loop : goal.invariant-loop
+invariant-loop l = l.reader.text.now ≡ l.text
 
-abbrev pub decreases-loop-bad : goal.decreases-loop-bad
-decreases-loop-bad l = length l.initial.text - l.reader.at
+abbrev pub decreases-loop : goal.decreases-loop
+decreases-loop l = length l.initial.text - l.reader.at

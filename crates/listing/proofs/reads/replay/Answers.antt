@@ -1,10 +1,9 @@
-use Rattle.std.proofs.Common.{◌≡◌, take, sym, ap, ◌∙◌, subst, rules}
+use Rattle.std.proofs.Common.{◌≡◌, take, sym, ap, ◌∙◌, rules}
 use Rattle.ssd1329.specs.Meaning.{chip}
-use Rattle.listing.specs.Listing.{RefusedAt}
 use Rattle.listing.specs.ReadBack.{listed}
 use Rattle.listing.specs.Reading.{Ended, Advanced}
 use Rattle.listing.specs.Replay.{met, replayed}
-use Rattle.listing.proofs.Whole.{none_replayed, replayed_push, whole_replayed, never_refused}
+use Rattle.listing.proofs.Whole.{none_replayed, replayed_push, whole_replayed}
 use Rattle.listing.proofs.reads.replay.Goals as goal
 
 pub loop-r-init : goal.loop-r-init
@@ -13,7 +12,7 @@ loop-r-init c = (c.new-reader.ensures.0, none_replayed (chip c.args.controller.n
 pub loop-r-preserved : goal.loop-r-preserved
 loop-r-preserved c =
     let i = c.loop-r.invariant in
-    let r = c.in-Ok-Some.r in
+    let r = c.in-Some.r in
     let start = chip c.args.controller.now in
     let text = c.loop-r.reader.text.now in
     let at = c.loop-r.reader.at in
@@ -26,14 +25,8 @@ loop-r-preserved c =
           ∙ ap (λ b. replayed start (listed (take c.next.new.self.at b))) i.0,
     )
 
-pub returns-in-Ok-None : goal.returns-in-Ok-None
-returns-in-Ok-None c =
+pub returns : goal.returns
+returns c =
     let reader = c.loop-r.reader in
     let end : Ended reader.text.now reader.at c.next.new.self.at = search rules in
     whole_replayed reader c.args.text.now c.next.new.self.at (chip c.args.controller.now) (chip c.loop-r.controller) c.loop-r.invariant.0 end c.loop-r.invariant.1
-
--- the text was checked
-pub returns-in-Err : goal.returns-in-Err
-returns-in-Err c =
-    absurd (never_refused c.args.text.now c.in-Err.bad.place c.in_ok-check.ensures
-    (subst (λ s. RefusedAt s c.in-Err.bad.place) c.loop-r.invariant.0 c.in-Err.ensures.read.0))

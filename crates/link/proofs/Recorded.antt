@@ -1,8 +1,6 @@
 -- What one record more makes of what a listing link means.
-use Rattle.std.proofs.Common.{◌≡◌, ℕ, ◌+◌, ◌-◌, ◌/◌, ◌≤◌, min, true, false, eqb, List, [], ◌∷◌, ◌++◌, length, take, is_some, Some, None, Ok, vec_items, vec_len, Option, Vec, sym, refl, ap, ◌∙◌, subst, arith}
+use Rattle.std.proofs.Common.{◌≡◌, ℕ, ◌+◌, ◌-◌, ◌/◌, ◌≤◌, true, List, [], ◌∷◌, ◌++◌, length, take, Some, None, vec_items, vec_len, Option, Vec, sym, ap, ◌∙◌, subst, arith}
 use Rattle.std.proofs.lemmas.List.{with_items_is}
-use Rattle.std.proofs.lemmas.Bool.{cond-false, ne_eqb}
-use Rattle.std.proofs.lemmas.Bool.Decides.{nat_tests}
 use Rattle.std.specs.Vec.{with_items}
 use Rattle.ssd1329.specs.declared.transfer.Transfer.{Transfer}
 use Rattle.ssd1329.specs.Chip.{Chip, blank}
@@ -17,7 +15,7 @@ use Rattle.listing.proofs.OneLine.{after_push}
 use Rattle.listing.proofs.Whole.{replayed_push}
 use Rattle.listing.proofs.Written.{Kept, Grown, grown}
 use Rattle.link.specs.declared.recorder.ListingLink.{ListingLink}
-use Rattle.link.specs.Links.{LinkMeaning, bad_size, open_closed, open_answer, opened, sent, Closed}
+use Rattle.link.specs.Links.{LinkMeaning, opened, sent, Closed}
 use Rattle.link.specs.Listed.{recorded, text_of, records_of, free_of, listing_meaning}
 use Rattle.link.specs.Panels.{fresh_link}
 use Rattle.link.specs.Space.{capacity, room_in, weight, transfers}
@@ -98,13 +96,6 @@ listed_then x y r rs used size =
     let free : free_of y ≡ free_of x - wide r = ap (λ k. capacity k - y.used) size ∙ ap (λ u. n - u) used ∙ less in
     ap (λ q. recorded q (free_of y)) rs ∙ ap (recorded (records_of x ++ r ∷ [])) free
 
--- a grant that is not 0
-pub open_answers : (m : LinkMeaning) (n grant : ℕ) → 1 ≤ n → n ≤ 9999 → m.slot ≡ None → grant ≡ min n m.room → (grant ≡ 0 → ⊥) → Ok grant ≡ open_answer m n
-open_answers m n grant low high shut least some =
-    let size : bad_size n ≡ false = grind (arith, nat_tests) in
-    let room : eqb m.room 0 ≡ false = ne_eqb m.room 0 (λ z. some (omega arith)) in
-    ap Ok least ∙ sym (cond-false (bad_size n) _ _ size ∙ ap (λ s. open_closed s m.room n) shut ∙ cond-false (eqb m.room 0) _ _ room)
-
 -- an empty text
 pub nothing_recorded : (size : ℕ) → recorded [] (size - 0) ≡ fresh_link blank (room_in None size)
 unfolding replayed slot_after transfers
@@ -112,14 +103,5 @@ nothing_recorded size =
     let e : size - 0 ≡ size = omega arith in
     ap (λ n. fresh_link blank (room_in None n)) e
 
-pub counts_more : (was is : List Record) (r : Record) (n w : ℕ) → is ≡ was ++ r ∷ [] → n ≡ transfers was → w ≡ weight r → n + w ≡ transfers is
-counts_more was is r n w e c h = let pushed = ap transfers e ∙ transfers_push was r in omega arith
-
--- what a look at the slot tells
-pub some_left : (s : Option ℕ) → is_some s ≡ true → (left : ℕ) × (s ≡ Some left)
-some_left None e = let z : ◌≡◌ {A = ℕ} 0 1 = cc in absurd (omega arith)
-some_left (Some left) e = (left, refl)
-
-pub none_left : (s : Option ℕ) → is_some s ≡ false → s ≡ None
-none_left None e = refl
-none_left (Some left) e = let z : ◌≡◌ {A = ℕ} 0 1 = cc in absurd (omega arith)
+pub counts_more : (was is : List Record) (r : Record) {n m : ℕ} → is ≡ was ++ r ∷ [] → m ≡ n + weight r → n ≡ transfers was → m ≡ transfers is
+counts_more was is r e m n = let pushed = ap transfers e ∙ transfers_push was r in omega arith

@@ -1,6 +1,7 @@
 // What every link is.
-ghost use Rattle.std.specs.Prelude.{◌≡◌};
-ghost use Rattle.link.specs.Links.{LinkMeaning, Lawful, open_answer, open_after, send_answer, send_after, close_answer, CloseAfter};
+ghost use Rattle.std.specs.Prelude.{◌≡◌, ◌≤◌, if◌then◌else◌, None, Err, IfOk};
+ghost use Rattle.refusal.specs.declared.refusals.Refusal.TheVariants.{SlotSize};
+ghost use Rattle.link.specs.Links.{LinkMeaning, Lawful, bad_size, open_closed, open_answer, open_after, send_answer, send_after, close_answer, CloseAfter};
 
 use refusal::Refusal;
 use ssd1329::Transfer;
@@ -37,4 +38,20 @@ pub trait Link {
     // How many transfers it took since it was fresh.
     fn taken(&self) -> u32
         ensures { result ≡ (means self.now).taken };
+}
+
+// How many of n transfers a link with that slot and that room grants.
+pub(crate) fn granted(slot: Option<u32>, room: u32, n: u32) -> Result<u32, Refusal>
+    ensures answer { result ≡ (if bad_size n then Err SlotSize else open_closed slot room n) }
+    ensures shut { IfOk result (λ grant. slot ≡ None) }
+    ensures fits { IfOk result (λ grant. (1 ≤ grant) × (grant ≤ 9999) × (grant ≤ room)) }
+{
+    if n < 1 || n > 9999 {
+        return Err(Refusal::SlotSize);
+    }
+    match slot {
+        Some(_) => Err(Refusal::InUse),
+        None if room == 0 => Err(Refusal::NoRoom),
+        None => Ok(n.min(room)),
+    }
 }

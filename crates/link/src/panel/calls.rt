@@ -6,7 +6,7 @@ ghost use Rattle.link.specs.Refusing.{Untouched};
 ghost use Rattle.link.specs.PanelLaws.{panel_lawful};
 
 use super::Panel;
-use crate::links::Link;
+use crate::links::{Link, granted};
 use refusal::Refusal;
 use ssd1329::Transfer;
 
@@ -20,16 +20,7 @@ impl Link for Panel {
         ensures after { panel_meaning self.new ≡ open_after (panel_meaning self.old) result }
         ensures untouched { Untouched result self.old self.new }
     {
-        if n < 1 || n > 9999 {
-            return Err(Refusal::SlotSize);
-        }
-        if self.slot.is_some() {
-            return Err(Refusal::InUse);
-        }
-        if self.room == 0 {
-            return Err(Refusal::NoRoom);
-        }
-        let grant = n.min(self.room);
+        let grant = granted(self.slot, self.room, n)?;
         self.slot = Some(grant);
         Ok(grant)
     }
@@ -39,13 +30,8 @@ impl Link for Panel {
         ensures after { panel_meaning self.new ≡ send_after (panel_meaning self.old) t result }
         ensures untouched { Untouched result self.old self.new }
     {
-        let Some(left) = self.slot else {
-            return Err(Refusal::NoSlot);
-        };
-        if left == 0 {
-            return Err(Refusal::GrantSpent);
-        }
-        self.slot = Some(left - 1);
+        let left = self.slot.ok_or(Refusal::NoSlot)?;
+        self.slot = Some(left.checked_sub(1).ok_or(Refusal::GrantSpent)?);
         self.room -= 1;
         self.taken += 1;
         if let Ok(controller) = &mut self.seat {
@@ -60,10 +46,7 @@ impl Link for Panel {
         ensures room_stays { self.new.room ≡ self.old.room }
         ensures untouched { Untouched result self.old self.new }
     {
-        if self.slot.is_none() {
-            return Err(Refusal::NoSlot);
-        }
-        self.slot = None;
+        self.slot.take().ok_or(Refusal::NoSlot)?;
         if let Ok(controller) = &mut self.seat {
             controller.end_slot();
         }

@@ -6,7 +6,7 @@ ghost use Rattle.link.specs.ListedLaws.{listing_lawful};
 ghost use Rattle.link.specs.Listed.{listing_meaning, ListsMore};
 
 use super::ListingLink;
-use crate::links::Link;
+use crate::links::{Link, granted};
 use listing::Record;
 use refusal::Refusal;
 use ssd1329::Transfer;
@@ -21,17 +21,8 @@ impl Link for ListingLink {
         ensures after { listing_meaning self.new ≡ open_after (listing_meaning self.old) result }
         ensures listed { ListsMore result (λ grant. Open grant) self.old self.new }
     {
-        if n < 1 || n > 9999 {
-            return Err(Refusal::SlotSize);
-        }
-        if self.slot.is_some() {
-            return Err(Refusal::InUse);
-        }
-        let grant = n.min(self.room());
-        if grant == 0 {
-            return Err(Refusal::NoRoom);
-        }
-        self.list(Record::Open(grant as u16));
+        let grant = granted(self.slot, self.room(), n)?;
+        self.list(Record::Open(grant as u16), Some(grant), self.taken);
         Ok(grant)
     }
 
@@ -40,13 +31,9 @@ impl Link for ListingLink {
         ensures after { listing_meaning self.new ≡ send_after (listing_meaning self.old) t result }
         ensures listed { ListsMore result (λ _. Sent t) self.old self.new }
     {
-        let Some(left) = self.slot else {
-            return Err(Refusal::NoSlot);
-        };
-        if left == 0 {
-            return Err(Refusal::GrantSpent);
-        }
-        self.list(Record::Sent(t));
+        let left = self.slot.ok_or(Refusal::NoSlot)?;
+        let left = left.checked_sub(1).ok_or(Refusal::GrantSpent)?;
+        self.list(Record::Sent(t), Some(left), self.taken + 1);
         Ok(())
     }
 
@@ -55,10 +42,8 @@ impl Link for ListingLink {
         ensures after { CloseAfter (listing_meaning self.old) result (listing_meaning self.new) }
         ensures listed { ListsMore result (λ _. Close) self.old self.new }
     {
-        if self.slot.is_none() {
-            return Err(Refusal::NoSlot);
-        }
-        self.list(Record::Close);
+        self.slot.ok_or(Refusal::NoSlot)?;
+        self.list(Record::Close, None, self.taken);
         Ok(())
     }
 
@@ -67,7 +52,7 @@ impl Link for ListingLink {
     }
 
     fn room(&self) -> u32 {
-        let capacity = if self.buffer.len() <= 65535 {
+        let capacity = if ListingLink::check(&self.buffer).is_ok() {
             self.buffer.len()
         } else {
             0

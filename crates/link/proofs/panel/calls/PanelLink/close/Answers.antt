@@ -5,8 +5,8 @@ use Rattle.ssd1329.proofs.Fresh.{dropped_blank, dropped_passes}
 use Rattle.link.specs.Seats.{seat_chip}
 use Rattle.link.proofs.panel.calls.PanelLink.close.Goals as goal
 
-pub invariant_of-self-clause-fresh : goal.invariant_of-self-clause-fresh
-invariant_of-self-clause-fresh c z =
+pub invariant_of-self-in-Ok-clause-fresh : goal.invariant_of-self-in-Ok-clause-fresh
+invariant_of-self-in-Ok-clause-fresh c z =
     let fresh = ap (λ s. is_reset (seat_chip s)) (sym c.in-Ok.is) ∙ c.args.self.now.fresh z in
     ap is_reset c.end_slot.ensures.ended ∙ dropped_passes (chip c.in-Ok.controller) fresh
 

@@ -1,5 +1,5 @@
 -- What one record more makes of what a listing link means.
-use Rattle.std.proofs.Common.{◌≡◌, ℕ, ◌+◌, ◌-◌, ◌/◌, ◌≤◌, true, List, [], ◌∷◌, ◌++◌, length, take, Some, None, vec_items, vec_len, Option, Vec, sym, ap, ◌∙◌, subst, arith}
+use Rattle.std.proofs.Common.{◌≡◌, ℕ, ◌+◌, ◌-◌, ◌/◌, ◌≤◌, true, false, List, [], ◌∷◌, ◌++◌, length, take, is_some, Some, None, vec_items, vec_len, Option, Vec, sym, refl, ap, ◌∙◌, subst, arith}
 use Rattle.std.proofs.lemmas.List.{with_items_is}
 use Rattle.std.specs.Vec.{with_items}
 use Rattle.ssd1329.specs.declared.transfer.Transfer.{Transfer}
@@ -105,3 +105,8 @@ nothing_recorded size =
 
 pub counts_more : (was is : List Record) (r : Record) {n m : ℕ} → is ≡ was ++ r ∷ [] → m ≡ n + weight r → n ≡ transfers was → m ≡ transfers is
 counts_more was is r e m n = let pushed = ap transfers e ∙ transfers_push was r in omega arith
+
+-- what a look at the slot tells
+pub none_left : (s : Option ℕ) → is_some s ≡ false → s ≡ None
+none_left None e = refl
+none_left (Some left) e = let z : ◌≡◌ {A = ℕ} 0 1 = cc in absurd (omega arith)

@@ -1,5 +1,5 @@
 // What every link is.
-ghost use Rattle.std.specs.Prelude.{◌≡◌, ◌≤◌, if◌then◌else◌, None, Err, IfOk};
+ghost use Rattle.std.specs.Prelude.{◌≡◌, ◌+◌, ◌≤◌, if◌then◌else◌, Some, None, Err, IfOk, MatchResult};
 ghost use Rattle.refusal.specs.declared.refusals.Refusal.TheVariants.{SlotSize};
 ghost use Rattle.link.specs.Links.{LinkMeaning, Lawful, bad_size, open_closed, open_answer, open_after, send_answer, send_after, close_answer, CloseAfter};
 
@@ -46,7 +46,7 @@ pub(crate) fn granted(slot: Option<u32>, room: u32, n: u32) -> Result<u32, Refus
     ensures shut { IfOk result (λ grant. slot ≡ None) }
     ensures fits { IfOk result (λ grant. (1 ≤ grant) × (grant ≤ 9999) × (grant ≤ room)) }
 {
-    if n < 1 || n > 9999 {
+    if !(1..=9999).contains(&n) {
         return Err(Refusal::SlotSize);
     }
     match slot {
@@ -54,4 +54,13 @@ pub(crate) fn granted(slot: Option<u32>, room: u32, n: u32) -> Result<u32, Refus
         None if room == 0 => Err(Refusal::NoRoom),
         None => Ok(n.min(room)),
     }
+}
+
+// What is left of the slot of a link once a transfer is sent.
+pub(crate) fn spent(slot: Option<u32>) -> Result<u32, Refusal>
+    ensures { MatchResult result (λ left. slot ≡ Some (left + 1)) (λ refusal. send_answer slot ≡ Err refusal) }
+{
+    slot.ok_or(Refusal::NoSlot)?
+        .checked_sub(1)
+        .ok_or(Refusal::GrantSpent)
 }

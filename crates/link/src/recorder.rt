@@ -9,6 +9,7 @@ mod life;
 mod lists;
 
 // The first `used` bytes of the buffer are a listing; `slot` and `taken` are what it says.
+// The buffer is fixed memory that a caller gives and gets back whole, so its used part is a number beside it.
 // An open slot keeps bytes in reserve for what is left of its grant, and for its close.
 #[derive(Drop)]
 pub struct ListingLink {

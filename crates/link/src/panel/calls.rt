@@ -1,4 +1,5 @@
 // The panel as a link.
+// A method that promises more than the trait's says the trait's clauses again, since its own stand in their place.
 ghost use Rattle.std.specs.Prelude.{◌≡◌};
 ghost use Rattle.link.specs.Links.{open_answer, open_after, send_answer, send_after, close_answer, CloseAfter};
 ghost use Rattle.link.specs.Panels.{panel_meaning};
@@ -6,7 +7,7 @@ ghost use Rattle.link.specs.Refusing.{Untouched};
 ghost use Rattle.link.specs.PanelLaws.{panel_lawful};
 
 use super::Panel;
-use crate::links::{Link, granted};
+use crate::links::{Link, granted, spent};
 use refusal::Refusal;
 use ssd1329::Transfer;
 
@@ -30,8 +31,7 @@ impl Link for Panel {
         ensures after { panel_meaning self.new ≡ send_after (panel_meaning self.old) t result }
         ensures untouched { Untouched result self.old self.new }
     {
-        let left = self.slot.ok_or(Refusal::NoSlot)?;
-        self.slot = Some(left.checked_sub(1).ok_or(Refusal::GrantSpent)?);
+        self.slot = Some(spent(self.slot)?);
         self.room -= 1;
         self.taken += 1;
         if let Ok(controller) = &mut self.seat {

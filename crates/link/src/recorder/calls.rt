@@ -1,4 +1,5 @@
 // The listing link as a link.
+// A method that promises more than the trait's says the trait's clauses again, since its own stand in their place.
 ghost use Rattle.std.specs.Prelude.{◌≡◌};
 ghost use Rattle.listing.specs.declared.record.Record.TheVariants.{Open, Sent, Close};
 ghost use Rattle.link.specs.Links.{open_answer, open_after, send_answer, send_after, close_answer, CloseAfter};
@@ -6,7 +7,7 @@ ghost use Rattle.link.specs.ListedLaws.{listing_lawful};
 ghost use Rattle.link.specs.Listed.{listing_meaning, ListsMore};
 
 use super::ListingLink;
-use crate::links::{Link, granted};
+use crate::links::{Link, granted, spent};
 use listing::Record;
 use refusal::Refusal;
 use ssd1329::Transfer;
@@ -31,8 +32,7 @@ impl Link for ListingLink {
         ensures after { listing_meaning self.new ≡ send_after (listing_meaning self.old) t result }
         ensures listed { ListsMore result (λ _. Sent t) self.old self.new }
     {
-        let left = self.slot.ok_or(Refusal::NoSlot)?;
-        let left = left.checked_sub(1).ok_or(Refusal::GrantSpent)?;
+        let left = spent(self.slot)?;
         self.list(Record::Sent(t), Some(left), self.taken + 1);
         Ok(())
     }

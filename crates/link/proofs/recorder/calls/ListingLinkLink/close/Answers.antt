@@ -10,4 +10,4 @@ returns-clause-after c =
     let me = c.args.self.now in
     let l = c.list.ensures in
     subst (Closed (listing_meaning me)) (sym (listed_then me c.list.new.self Close l.listed l.longer l.size))
-        (closed_recorded (records_of me) (free_of me) c.in_ok-ok_or.field-0 (sym me.stands ∙ c.in_ok-ok_or.ensures.ok_part))
+    (closed_recorded (records_of me) (free_of me) c.in_ok-ok_or.field-0 (sym me.stands ∙ c.in_ok-ok_or.ensures.ok_part))

@@ -75,7 +75,7 @@ pub fn follow(slot: Option<u16>, r: Record) -> Option<Option<u16>>
     ensures { result ≡ (if allowed slot r then Some (slot_then slot r) else None) }
 {
     match (slot, r) {
-        (None, Record::Open(n)) if 0 < n && n < 10000 => Some(Some(n)),
+        (None, Record::Open(n @ 1..=9999)) => Some(Some(n)),
         (Some(left), Record::Sent(_)) if 0 < left => Some(Some(left - 1)),
         (Some(_), Record::Close) => Some(None),
         _ => None,

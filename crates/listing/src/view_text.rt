@@ -12,9 +12,8 @@ use std::io::Write;
 fn show_dots<W: Write>(controller: &Controller, wiring: &Wiring, out: &mut W) -> io::Result<()> {
     let mut row = [0u8; 1408];
     for y in 0..128 {
-        if let Ok(n) = controller.row_text(wiring, y, &mut row) {
-            out.write_all(&row[0..n])?;
-        }
+        let n = controller.row_text(wiring, y, &mut row).unwrap();
+        out.write_all(&row[..n])?;
     }
     Ok(())
 }
@@ -30,9 +29,7 @@ pub fn view_on<W: Write>(
     ensures { Viewed text.now (chip controller.old) (chip controller.new) }
 {
     if let Err(bad) = replay(text, controller) {
-        let number = bad.number();
-        let place = bad.place;
-        return writeln!(out, "{number}\t{place}");
+        return writeln!(out, "{}\t{}", bad.number(), bad.place);
     }
     let shows = controller.shows();
     writeln!(out, "{shows}")?;

@@ -19,8 +19,8 @@ fn is_legal(r: Record) -> bool
     ensures { result ≡ legal r }
 {
     match r {
-        Record::Open(n) => 0 < n && n < 10000,
-        _ => true,
+        Record::Open(n) => (1..=9999).contains(&n),
+        Record::Sent(_) | Record::Close => true,
     }
 }
 

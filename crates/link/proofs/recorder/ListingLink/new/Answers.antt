@@ -9,6 +9,10 @@ pub invariant_of-result : goal.invariant_of-result
 unfolding text fits slot_after listed lines transfers
 invariant_of-result c = record { inside = omega arith; spelled = refl; lawful = refl; stands = refl; counted = refl; few = omega arith }
 
-pub returns : goal.returns
+pub returns-clause-means : goal.returns-clause-means
 unfolding listed lines
-returns c = record { means = nothing_recorded _; empty = refl; keeps = refl }
+returns-clause-means c = nothing_recorded _
+
+pub returns-clause-empty : goal.returns-clause-empty
+unfolding listed lines
+returns-clause-empty c = refl

@@ -1,5 +1,5 @@
 -- One line more.
-use Rattle.std.proofs.Common.{◌≡◌, ℕ, ◌+◌, ◌≤◌, Bool, true, false, cond, List, [], ◌∷◌, ◌++◌, length, take, drop, Some, None, Option, sym, refl, ap, ◌∙◌, arith, length-take, take-add}
+use Rattle.std.proofs.Common.{◌≡◌, ℕ, ◌+◌, ◌≤◌, true, List, [], ◌∷◌, ◌++◌, length, take, drop, Some, None, Option, sym, refl, ap, ◌∙◌, arith, length-take, take-add}
 use Rattle.std.proofs.lemmas.List.{append_assoc, append-nil}
 use Rattle.std.proofs.lemmas.Bool.{and_from, and_parts}
 use Rattle.std.proofs.lemmas.Bool.Decides.{nat_tests}
@@ -40,14 +40,6 @@ more_lists s n rs r l e f = record {
   spelled = e ∙ ap (λ a. a ++ line r) l.spelled ∙ sym (text_push rs r);
   lawful = fits_push None rs r l.lawful f;
 }
-
--- what the test on the slot tells
-pub followed : (t : Bool) (s x : Option ℕ) → cond t (Some s) None ≡ Some x → (t ≡ true) × (s ≡ x)
-followed true s x e = (refl, cc)
-followed false s x e = let z : ◌≡◌ {A = ℕ} 0 1 = cc in absurd (omega arith)
-
-pub not_followed : (t : Bool) (s : Option ℕ) → ◌≡◌ {A = Option (Option ℕ)} (cond t (Some s) None) None → t ≡ true → ⊥
-not_followed t s e f = let z : ◌≡◌ {A = ℕ} 0 1 = cc in omega arith
 
 -- a line that stands in a text
 pub line_fits : (s : List ℕ) (r : Record) → Begins s r → wide r ≤ length s

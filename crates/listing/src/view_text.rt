@@ -1,7 +1,9 @@
 // What a listing shows, as text.
-ghost use Rattle.std.specs.Result.{MatchResult};
+ghost use Rattle.std.specs.Prelude.{ℕ, OnOk};
+ghost use Rattle.std.specs.Io.KnownBytes.{Appends};
 ghost use Rattle.ssd1329.specs.Meaning.{chip};
-ghost use Rattle.listing.specs.Replay.{Viewed};
+ghost use Rattle.listing.specs.Listing.{RefusedAt};
+ghost use Rattle.listing.specs.Replay.{Viewed, refusal_line};
 
 use crate::reads::replay;
 use ssd1329::{Controller, Shows, Wiring};
@@ -26,7 +28,8 @@ pub fn view_on<W: Write>(
     controller: &mut Controller,
     out: &mut W,
 ) -> io::Result<()>
-    ensures { Viewed text.now (chip controller.old) (chip controller.new) }
+    ensures replays { Viewed text.now (chip controller.old) (chip controller.new) }
+    ensures refuses { (place : ℕ) → RefusedAt text.now place → OnOk result (Appends (W.contents out.old) (W.contents out.new) (refusal_line place)) }
 {
     if let Err(bad) = replay(text, controller) {
         return writeln!(out, "{}\t{}", bad.number(), bad.place);
@@ -41,7 +44,8 @@ pub fn view_on<W: Write>(
 
 // The same on a module without marks.
 pub fn view<W: Write>(text: &[u8], controller: &mut Controller, out: &mut W) -> io::Result<()>
-    ensures { Viewed text.now (chip controller.old) (chip controller.new) }
+    ensures replays { Viewed text.now (chip controller.old) (chip controller.new) }
+    ensures refuses { (place : ℕ) → RefusedAt text.now place → OnOk result (Appends (W.contents out.old) (W.contents out.new) (refusal_line place)) }
 {
     view_on(text, &Wiring::plain(), controller, out)
 }

@@ -1,9 +1,9 @@
 -- Parts that lie wholly inside a picture.
-use Rattle.std.proofs.Common.{◌≡◌, ℕ, ◌+◌, ◌<◌, ◌≤◌, min, None, Ok, refl, arith}
+use Rattle.std.proofs.Common.{◌≡◌, ℕ, ◌+◌, ◌<◌, ◌≤◌, None, Ok, refl, arith}
 use Rattle.std.proofs.lemmas.Bool.Decides.{nat_tests}
 use Rattle.picture.specs.declared.pictures.Picture.{Ghosts}
 use Rattle.picture.specs.declared.kinds.Crop.{Crop}
-use Rattle.picture.specs.Pictures.{PictureMeaning, to_extent}
+use Rattle.picture.specs.Pictures.{PictureMeaning}
 use Rattle.picture.specs.Parts.{seen, crop_refusal}
 use Rattle.picture.specs.Kinds.{Cropped, CropMade}
 
@@ -26,29 +26,17 @@ within_accepted p a b w h i = grind (arith, nat_tests)
 pub seen_inside : (p : PictureMeaning) (x y : ℕ) → x < p.width → y < p.height → seen p x y ≡ p.dot x y
 seen_inside p x y i j = grind (arith, nat_tests)
 
--- the crop that holds these numbers
-abbrev pub cut : {P : Type 0} → P → ℕ → ℕ → ℕ → ℕ → Crop P
-cut inner a b w h = record { inner = inner; left = a; top = b; size = record { width = w; height = h } }
+-- A crop lies inside its picture, so its dots are the picture's.
+pub cropped : {P : Type 0} (k : Ghosts P) (c : Crop P k) → Cropped k c.inner c.left c.top c.size.width c.size.height c
+cropped k c = record {
+  keeps = refl;
+  means = refl;
+  shows = λ x y u v. seen_inside (k.means c.inner) (c.left + x) (c.top + y) (omega arith) (omega arith);
+}
 
--- A part of a lawful picture has its numbers in range, so none is altered; and its dots are the picture's.
-pub cropped : {P : Type 0} (k : Ghosts P) (inner : P) (a b w h : ℕ) → Within (k.means inner) a b w h
-    → Cropped k inner a b w h (cut inner a b w h)
-cropped k inner a b w h i =
-    let p = k.means inner in
-    let l = k.lawful inner in
-    let wide : p.width ≤ 128 = l.across.most in
-    let high : p.height ≤ 128 = l.down.most in
-    let left : min a 127 ≡ a = omega arith in
-    let top : min b 127 ≡ b = omega arith in
-    let width : to_extent w ≡ w = omega arith in
-    let height : to_extent h ≡ h = omega arith in
-    record {
-      keeps = refl;
-      means = rw (left, top, width, height) refl;
-      shows = λ x y u v. rw (left, top) (seen_inside p (a + x) (b + y) (omega arith) (omega arith));
-    }
+pub crop_within : {P : Type 0} (k : Ghosts P) (c : Crop P k) → Within (k.means c.inner) c.left c.top c.size.width c.size.height
+crop_within k c = record { wide = omega arith; high = omega arith; across = omega arith; down = omega arith }
 
 -- A crop is made where it is accepted.
-pub crop_made : {P : Type 0} (k : Ghosts P) (inner : P) (a b w h : ℕ) → Within (k.means inner) a b w h
-    → CropMade k inner a b w h (Ok (cut inner a b w h))
-crop_made k inner a b w h i = record { free = within_accepted (k.means inner) a b w h i; right = cropped k inner a b w h i }
+pub crop_made : {P : Type 0} (k : Ghosts P) (c : Crop P k) → CropMade k c.inner c.left c.top c.size.width c.size.height (Ok c)
+crop_made k c = record { free = within_accepted _ _ _ _ _ (crop_within k c); right = cropped k c }

@@ -7,15 +7,19 @@ use Rattle.picture.specs.declared.kinds.BitPicture.{BitPicture}
 use Rattle.picture.specs.declared.kinds.GrayPicture.{GrayPicture}
 use Rattle.picture.specs.declared.kinds.Crop.{Crop}
 use Rattle.picture.specs.declared.kinds.Inverse.{Inverse}
-use Rattle.picture.specs.declared.kinds.Either.{Either}
-use Rattle.picture.specs.declared.kinds.Either.TheVariants.{First, Second}
-use Rattle.picture.specs.Pictures.{PictureMeaning, inside, Shade, Extent, to_extent, Lawful}
+use Rattle.either.specs.declared.Either.{Either}
+use Rattle.either.specs.declared.Either.TheVariants.{Left, Right}
+use Rattle.picture.specs.declared.sizes.Size.{Size}
+use Rattle.picture.specs.Pictures.{PictureMeaning, inside, Shade, Extent, Lawful}
 use Rattle.picture.specs.Packed.{packed}
 use Rattle.picture.specs.Parts.{seen, inverted}
 use Rattle.picture.specs.Kinds.{bits_mean, grays_mean, crop_means, inverse_means, either_means}
 
-nearest : (n : ℕ) → Extent (to_extent n)
-nearest n = record { some = omega arith; most = omega arith }
+wide : (s : Size) → Extent s.width
+wide s = record { some = s.across.0; most = s.across.1 }
+
+high : (s : Size) → Extent s.height
+high s = record { some = s.down.0; most = s.down.1 }
 
 -- a dot that is chosen or clear is a shade if it is one where it is chosen
 chosen_shade : (b : Bool) (o : Option ℕ) → (T b → Shade o) → Shade (cond b o None)
@@ -38,18 +42,18 @@ inverted_shade None = tt
 
 pub bits_lawful : {B : Type 0} (k : BytesGhosts B) (p : BitPicture B) → Lawful (bits_mean k p)
 bits_lawful k p =
-    record { across = nearest p.size.width; down = nearest p.size.height; shades = λ x y _ _. chosen_shade _ (Some _) (λ _. omega arith) }
+    record { across = wide p.layout.size; down = high p.layout.size; shades = λ x y _ _. chosen_shade _ (Some p.gray) (λ _. p.shade) }
 
 pub grays_lawful : {B : Type 0} (k : BytesGhosts B) (p : GrayPicture B) → Lawful (grays_mean k p)
 unfolding packed
 grays_lawful k p =
-    record { across = nearest p.size.width; down = nearest p.size.height; shades = λ x y _ _. omega arith }
+    record { across = wide p.layout.size; down = high p.layout.size; shades = λ x y _ _. omega arith }
 
-pub crop_lawful : {P : Type 0} (k : PictureGhosts P) (c : Crop P) → Lawful (crop_means k c)
+pub crop_lawful : {P : Type 0} (k : PictureGhosts P) (c : Crop P k) → Lawful (crop_means k c)
 crop_lawful k c =
     record {
-      across = nearest c.size.width;
-      down = nearest c.size.height;
+      across = wide c.size;
+      down = high c.size;
       shades = λ x y _ _. seen_shade (k.means c.inner) _ _ (k.lawful c.inner);
     }
 
@@ -59,5 +63,5 @@ inverse_lawful k i =
     record { across = l.across; down = l.down; shades = λ x y _ _. inverted_shade ((k.means i.inner).dot x y) }
 
 pub either_lawful : {P Q : Type 0} (k : PictureGhosts P) (l : PictureGhosts Q) (e : Either P Q) → Lawful (either_means k l e)
-either_lawful k l (First p) = k.lawful p
-either_lawful k l (Second q) = l.lawful q
+either_lawful k l (Left p) = k.lawful p
+either_lawful k l (Right q) = l.lawful q

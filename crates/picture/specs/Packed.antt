@@ -38,6 +38,10 @@ sized n = nat_le 1 n && nat_le n 128
 abbrev pub shaped : ℕ → ℕ → ℕ → ℕ → Bool
 shaped depth count width height = sized width && (sized height && count == bytes_a_row depth width * height)
 
+-- why that shape is refused, if it is
+abbrev pub shape_refusal : ℕ → ℕ → ℕ → ℕ → Option Refusal
+shape_refusal depth count width height = cond (shaped depth count width height) None (Some PictureShape)
+
 -- why a bit picture of `count` bytes is refused, if it is
 abbrev pub bit_refusal : ℕ → ℕ → ℕ → ℕ → Option Refusal
 bit_refusal count width height gray =
@@ -45,4 +49,4 @@ bit_refusal count width height gray =
 
 -- why a gray picture of `count` bytes is refused, if it is
 abbrev pub gray_refusal : ℕ → ℕ → ℕ → Option Refusal
-gray_refusal count width height = cond (shaped 4 count width height) None (Some PictureShape)
+gray_refusal count width height = shape_refusal 4 count width height

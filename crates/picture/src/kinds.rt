@@ -1,5 +1,8 @@
-// The kinds of pictures. Every value of each means a lawful picture (specs/Kinds.antt): a field that is out of
-// range counts as the nearest number in it. Those that a making accepts are in range.
+// The kinds of pictures. Every value of each means a lawful picture (specs/Kinds.antt).
+ghost use Rattle.std.specs.Prelude.{◌+◌, ◌≤◌};
+
+use crate::packed::Layout;
+use crate::pictures::Picture;
 use crate::sizes::Size;
 
 pub mod bits;
@@ -12,37 +15,31 @@ pub mod inverses;
 #[derive(Drop)]
 pub struct BitPicture<B> {
     bytes: B,
-    size: Size,
+    layout: Layout<1>,
     gray: u8,
+    ghost shade: { gray ≤ 15 },
 }
 
 // Four bits a dot, each a gray.
 #[derive(Drop)]
 pub struct GrayPicture<B> {
     bytes: B,
-    size: Size,
+    layout: Layout<4>,
 }
 
-// A part of a picture, from (left, top) on.
-// That it lies inside its picture is shown where it is made; the type cannot say so, since it knows nothing of
-// what P means. So a place that the picture has not would be clear.
+// A part of a picture, from (left, top) on, wholly inside it.
 #[derive(Drop)]
-pub struct Crop<P> {
+pub struct Crop<P: Picture> {
     inner: P,
     left: u32,
     top: u32,
     size: Size,
+    ghost across: { left + size.width ≤ (P.means inner).width },
+    ghost down: { top + size.height ≤ (P.means inner).height },
 }
 
 // A picture with each gray 15 less; clear stays clear.
 #[derive(Drop)]
 pub struct Inverse<P> {
     inner: P,
-}
-
-// A picture of one kind or of another, so that one type has both.
-#[derive(Drop)]
-pub enum Either<P, Q> {
-    First(P),
-    Second(Q),
 }

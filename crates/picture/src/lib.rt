@@ -13,6 +13,7 @@ mod sizes;
 mod tests;
 
 pub use bytes::Bytes;
-pub use kinds::{BitPicture, Crop, Either, GrayPicture, Inverse};
+pub use either::Either;
+pub use kinds::{BitPicture, Crop, GrayPicture, Inverse};
 pub use laws::pictures_have_their_laws;
 pub use pictures::Picture;

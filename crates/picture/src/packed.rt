@@ -1,49 +1,62 @@
-// Dots packed into bytes, `depth` bits a dot, by the layout of specs/Packed.antt.
-ghost use Rattle.std.specs.Prelude.{◌≡◌, ◌<◌, ◌≤◌, length, slice_index};
-ghost use Rattle.picture.specs.Packed.{places_a_byte, bytes_a_row, field, packed, shaped};
+// Dots packed into bytes, DEPTH bits a dot, by the layout of specs/Packed.antt.
+ghost use Rattle.std.specs.Prelude.{◌≡◌, ◌<◌, ◌≤◌, ◌&&◌, length, if◌then◌else◌, Some, None, Ok, Err, IfOk, IfErr, nat_lt};
+ghost use Rattle.refusal.specs.declared.refusals.Refusal.TheVariants.{OutsidePicture};
+ghost use Rattle.picture.specs.Packed.{places_a_byte, bytes_a_row, field, packed, shape_refusal};
 
-// How many bytes a row of `width` dots takes.
-fn row_bytes(depth: u32, width: u32) -> u32
-    requires { (1 ≤ depth) × (depth < 8) × (width ≤ 128) }
-    ensures value { result ≡ bytes_a_row depth width }
-    ensures small { result ≤ 135 }
-{
-    let per_byte = 8 / depth;
-    (width + (per_byte - 1)) / per_byte
+use crate::sizes::Size;
+use refusal::Refusal;
+
+// How dots of DEPTH bits lie in bytes, row after row.
+#[derive(Clone, Copy)]
+pub(crate) struct Layout<const DEPTH: u32> {
+    pub(crate) size: Size,
+    ghost some: { 1 ≤ DEPTH },
+    ghost most: { DEPTH < 8 },
 }
 
-// Whether a picture may have this width and height, and has just as many bytes as they take.
-pub(crate) fn shaped(depth: u32, bytes: &[u8], width: u32, height: u32) -> bool
-    requires { (1 ≤ depth) × (depth < 8) }
-    ensures { result ≡ shaped depth (length bytes.now) width height }
-{
-    if width < 1 || width > 128 || height < 1 || height > 128 {
-        return false;
+impl<const DEPTH: u32> Layout<DEPTH> {
+    // It checks the width and the height, and that there are just as many bytes as they take.
+    pub(crate) fn new(bytes: &[u8], width: u32, height: u32) -> Result<Layout<DEPTH>, Refusal>
+        requires { (1 ≤ DEPTH) × (DEPTH < 8) }
+        ensures ok { IfOk result (λ layout. (shape_refusal DEPTH (length bytes.now) width height ≡ None)
+            × (layout.size.width ≡ width) × (layout.size.height ≡ height)) }
+        ensures err { IfErr result (λ refusal. shape_refusal DEPTH (length bytes.now) width height ≡ Some refusal) }
+    {
+        let size = Size::new(width, height).ok_or(Refusal::PictureShape)?;
+        let layout = Layout { size };
+        if bytes.len() == (layout.row_bytes() * size.height) as usize {
+            Ok(layout)
+        } else {
+            Err(Refusal::PictureShape)
+        }
     }
-    bytes.len() == (row_bytes(depth, width) * height) as usize
-}
 
-// The byte at a place; 0 past the last.
-fn byte_at(bytes: &[u8], place: usize) -> u8
-    ensures { result ≡ slice_index bytes.now place }
-{
-    if place < bytes.len() { bytes[place] } else { 0 }
-}
+    // How many bytes a row takes, the last one filled up.
+    fn row_bytes(&self) -> u32
+        ensures value { result ≡ bytes_a_row DEPTH self.now.size.width }
+        ensures small { result ≤ 135 }
+    {
+        let per_byte = 8 / DEPTH;
+        (self.size.width + (per_byte - 1)) / per_byte
+    }
 
-// The number in the bits of a byte's dot at `place`, counted from the highest bits.
-fn field(depth: u32, byte: u8, place: u32) -> u8
-    requires { (1 ≤ depth) × (depth < 8) × (place < places_a_byte depth) }
-    ensures { result ≡ field depth byte place }
-{
-    (byte >> (8 - depth * (place + 1))) % (1 << depth)
-}
+    // The number in the bits of a byte's dot at `place`, counted from the highest bits.
+    fn field(&self, byte: u8, place: u32) -> u8
+        requires { place < places_a_byte DEPTH }
+        ensures { result ≡ field DEPTH byte place }
+    {
+        (byte >> (8 - DEPTH * (place + 1))) % (1 << DEPTH)
+    }
 
-// The number of the dot (x, y) in rows of `width` dots.
-pub(crate) fn packed(depth: u32, bytes: &[u8], width: u32, x: u32, y: u32) -> u8
-    requires { (1 ≤ depth) × (depth < 8) × (width ≤ 128) × (x < 128) × (y < 128) }
-    ensures { result ≡ packed depth bytes.now width x y }
-{
-    let per_byte = 8 / depth;
-    let byte = byte_at(bytes, (y * row_bytes(depth, width) + x / per_byte) as usize);
-    field(depth, byte, x % per_byte)
+    // The number of the dot (x, y); past the last byte all numbers are 0.
+    #[tactic(auto, unfolding(crate::specs::Packed::packed))]
+    pub(crate) fn number(&self, bytes: &[u8], x: u32, y: u32) -> Result<u8, Refusal>
+        ensures { result ≡ (if nat_lt x self.now.size.width && nat_lt y self.now.size.height
+            then Ok (packed DEPTH bytes.now self.now.size.width x y) else Err OutsidePicture) }
+    {
+        self.size.place(x, y)?;
+        let per_byte = 8 / DEPTH;
+        let byte = bytes.get((y * self.row_bytes() + x / per_byte) as usize);
+        Ok(self.field(byte.copied().unwrap_or(0), x % per_byte))
+    }
 }

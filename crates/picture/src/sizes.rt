@@ -1,33 +1,40 @@
 // A picture's width and height.
-ghost use Rattle.std.specs.Prelude.{◌≡◌, ◌&&◌, nat_lt};
-ghost use Rattle.picture.specs.Pictures.{to_extent};
+ghost use Rattle.std.specs.Prelude.{◌≡◌, ◌&&◌, ◌≤◌, ◌↔◌, nat_lt, IsTrue, IfSome, IsSome, if◌then◌else◌, Ok, Err};
+ghost use Rattle.refusal.specs.declared.refusals.Refusal.TheVariants.{OutsidePicture};
+ghost use Rattle.picture.specs.Packed.{sized};
 
-// Both are brought into 1 to 128 where they are read, which alters none that the making of a picture accepts.
-// It is not an invariant of the type, since the toolchain covers no `Result` that holds both a reference, as lent
-// bytes are, and a type with an invariant.
+use refusal::Refusal;
+
+// Each is 1 to 128.
 #[derive(Clone, Copy)]
 pub struct Size {
     pub(crate) width: u32,
     pub(crate) height: u32,
+    ghost across: { (1 ≤ width) × (width ≤ 128) },
+    ghost down: { (1 ≤ height) × (height ≤ 128) },
 }
 
 impl Size {
-    pub(crate) fn width(self) -> u32
-        ensures { result ≡ to_extent self.width }
+    // The size, if a picture may have it.
+    pub(crate) fn new(width: u32, height: u32) -> Option<Size>
+        ensures some { IsSome result ↔ IsTrue (sized width && sized height) }
+        ensures size { IfSome result (λ size. (size.width ≡ width) × (size.height ≡ height)) }
     {
-        self.width.clamp(1, 128)
+        if (1..=128).contains(&width) && (1..=128).contains(&height) {
+            Some(Size { width, height })
+        } else {
+            None
+        }
     }
 
-    pub(crate) fn height(self) -> u32
-        ensures { result ≡ to_extent self.height }
+    // Refuses a place (x, y) that a picture of this size has not.
+    pub(crate) fn place(self, x: u32, y: u32) -> Result<(), Refusal>
+        ensures { result ≡ (if nat_lt x self.width && nat_lt y self.height then Ok tt else Err OutsidePicture) }
     {
-        self.height.clamp(1, 128)
-    }
-
-    // Whether a picture of this size has the place (x, y).
-    pub(crate) fn has(self, x: u32, y: u32) -> bool
-        ensures { result ≡ (nat_lt x (to_extent self.width) && nat_lt y (to_extent self.height)) }
-    {
-        x < self.width() && y < self.height()
+        if x < self.width && y < self.height {
+            Ok(())
+        } else {
+            Err(Refusal::OutsidePicture)
+        }
     }
 }

@@ -65,10 +65,10 @@ fn one_of_two_kinds_is_what_it_holds(rt: HostRuntime) -> Result<(), Fail> {
     ) else {
         return Err(Fail::new("refused"));
     };
-    let mut picture = Either::First(bits);
+    let mut picture = Either::Left(bits);
     assert_eq!(rt; picture.width(), 10);
     assert_eq!(rt; picture.dot(9, 0)?, Some(9));
-    picture = Either::Second(grays);
+    picture = Either::Right(grays);
     assert_eq!(rt; picture.width(), 3);
     assert_eq!(rt; picture.dot(1, 1)?, Some(7));
     Ok(())

@@ -4,34 +4,23 @@ ghost use Rattle.picture.specs.Kinds.{bits_mean, BitsMade};
 
 use crate::bytes::Bytes;
 use crate::kinds::BitPicture;
-use crate::packed::{packed, shaped};
+use crate::packed::Layout;
 use crate::pictures::Picture;
-use crate::sizes::Size;
 use refusal::{HandedBack, Refusal};
-
-const DEPTH: u32 = 1;
 
 impl<B: Bytes> BitPicture<B> {
     // A picture of one gray. It checks the shape first, then the gray.
     pub fn new(bytes: B, width: u32, height: u32, gray: u8) -> Result<BitPicture<B>, HandedBack<B>>
         ensures { BitsMade B.Bytes bytes width height gray result }
     {
-        if !shaped(DEPTH, bytes.all(), width, height) {
-            return Err(HandedBack {
-                refusal: Refusal::PictureShape,
-                value: bytes,
-            });
-        }
-        if gray > 15 {
-            return Err(HandedBack {
-                refusal: Refusal::Gray,
-                value: bytes,
-            });
-        }
-        Ok(BitPicture {
-            bytes,
-            size: Size { width, height },
-            gray,
+        let refusal = match Layout::new(bytes.all(), width, height) {
+            Ok(layout) if gray <= 15 => return Ok(BitPicture { bytes, layout, gray }),
+            Ok(_) => Refusal::Gray,
+            Err(refusal) => refusal,
+        };
+        Err(HandedBack {
+            refusal,
+            value: bytes,
         })
     }
 }
@@ -42,21 +31,15 @@ impl<B: Bytes> Picture for BitPicture<B> {
     ghost lawful = { λ p. bits_lawful B.Bytes p };
 
     fn width(&self) -> u32 {
-        self.size.width()
+        self.layout.size.width
     }
 
     fn height(&self) -> u32 {
-        self.size.height()
+        self.layout.size.height
     }
 
     fn dot(&self, x: u32, y: u32) -> Result<Option<u8>, Refusal> {
-        if !self.size.has(x, y) {
-            return Err(Refusal::OutsidePicture);
-        }
-        if packed(DEPTH, self.bytes.all(), self.size.width(), x, y) == 1 {
-            Ok(Some(self.gray.min(15)))
-        } else {
-            Ok(None)
-        }
+        let number = self.layout.number(self.bytes.all(), x, y)?;
+        Ok((number == 1).then_some(self.gray))
     }
 }

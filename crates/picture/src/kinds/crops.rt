@@ -21,37 +21,32 @@ impl<P: Picture> Crop<P> {
     {
         let wide = inner.width();
         let high = inner.height();
-        if width < 1
-            || height < 1
-            || left > wide
-            || width > wide - left
-            || top > high
-            || height > high - top
-        {
-            return Err(HandedBack {
+        match Size::new(width, height) {
+            Some(size)
+                if left <= wide
+                    && width <= wide - left
+                    && top <= high
+                    && height <= high - top =>
+            {
+                Ok(Crop {
+                    inner,
+                    left,
+                    top,
+                    size,
+                })
+            }
+            _ => Err(HandedBack {
                 refusal: Refusal::CropOutside,
                 value: inner,
-            });
+            }),
         }
-        Ok(Crop {
-            inner,
-            left,
-            top,
-            size: Size { width, height },
-        })
     }
 
     // The picture that this is a part of.
     pub fn into_inner(self) -> P
         ensures { result ≡ self.inner }
     {
-        let Crop {
-            inner,
-            left: _,
-            top: _,
-            size: _,
-        } = self;
-        inner
+        self.inner
     }
 }
 
@@ -61,23 +56,15 @@ impl<P: Picture> Picture for Crop<P> {
     ghost lawful = { λ c. crop_lawful P.Picture c };
 
     fn width(&self) -> u32 {
-        self.size.width()
+        self.size.width
     }
 
     fn height(&self) -> u32 {
-        self.size.height()
+        self.size.height
     }
 
     fn dot(&self, x: u32, y: u32) -> Result<Option<u8>, Refusal> {
-        if !self.size.has(x, y) {
-            return Err(Refusal::OutsidePicture);
-        }
-        let column = self.left.min(127) + x;
-        let row = self.top.min(127) + y;
-        match self.inner.dot(column, row) {
-            Ok(dot) => Ok(dot),
-            // never of a crop that lies inside
-            Err(_) => Ok(None),
-        }
+        self.size.place(x, y)?;
+        self.inner.dot(self.left + x, self.top + y)
     }
 }

@@ -2,8 +2,8 @@
 ghost use Rattle.picture.specs.Lawfulness.{either_lawful};
 ghost use Rattle.picture.specs.Kinds.{either_means};
 
-use crate::kinds::Either;
 use crate::pictures::Picture;
+use either::{Either, for_both};
 use refusal::Refusal;
 
 impl<P: Picture, Q: Picture> Picture for Either<P, Q> {
@@ -12,23 +12,14 @@ impl<P: Picture, Q: Picture> Picture for Either<P, Q> {
     ghost lawful = { λ e. either_lawful P.Picture Q.Picture e };
 
     fn width(&self) -> u32 {
-        match self {
-            Either::First(picture) => picture.width(),
-            Either::Second(picture) => picture.width(),
-        }
+        for_both!(self, picture => picture.width())
     }
 
     fn height(&self) -> u32 {
-        match self {
-            Either::First(picture) => picture.height(),
-            Either::Second(picture) => picture.height(),
-        }
+        for_both!(self, picture => picture.height())
     }
 
     fn dot(&self, x: u32, y: u32) -> Result<Option<u8>, Refusal> {
-        match self {
-            Either::First(picture) => picture.dot(x, y),
-            Either::Second(picture) => picture.dot(x, y),
-        }
+        for_both!(self, picture => picture.dot(x, y))
     }
 }

@@ -4,28 +4,22 @@ ghost use Rattle.picture.specs.Kinds.{grays_mean, GraysMade};
 
 use crate::bytes::Bytes;
 use crate::kinds::GrayPicture;
-use crate::packed::{packed, shaped};
+use crate::packed::Layout;
 use crate::pictures::Picture;
-use crate::sizes::Size;
 use refusal::{HandedBack, Refusal};
-
-const DEPTH: u32 = 4;
 
 impl<B: Bytes> GrayPicture<B> {
     // A picture with a gray for each place.
     pub fn new(bytes: B, width: u32, height: u32) -> Result<GrayPicture<B>, HandedBack<B>>
         ensures { GraysMade B.Bytes bytes width height result }
     {
-        if !shaped(DEPTH, bytes.all(), width, height) {
-            return Err(HandedBack {
-                refusal: Refusal::PictureShape,
+        match Layout::new(bytes.all(), width, height) {
+            Ok(layout) => Ok(GrayPicture { bytes, layout }),
+            Err(refusal) => Err(HandedBack {
+                refusal,
                 value: bytes,
-            });
+            }),
         }
-        Ok(GrayPicture {
-            bytes,
-            size: Size { width, height },
-        })
     }
 }
 
@@ -35,17 +29,15 @@ impl<B: Bytes> Picture for GrayPicture<B> {
     ghost lawful = { λ p. grays_lawful B.Bytes p };
 
     fn width(&self) -> u32 {
-        self.size.width()
+        self.layout.size.width
     }
 
     fn height(&self) -> u32 {
-        self.size.height()
+        self.layout.size.height
     }
 
     fn dot(&self, x: u32, y: u32) -> Result<Option<u8>, Refusal> {
-        if !self.size.has(x, y) {
-            return Err(Refusal::OutsidePicture);
-        }
-        Ok(Some(packed(DEPTH, self.bytes.all(), self.size.width(), x, y)))
+        let number = self.layout.number(self.bytes.all(), x, y)?;
+        Ok(Some(number))
     }
 }

@@ -1,5 +1,5 @@
 // Inverses of pictures.
-ghost use Rattle.std.specs.Prelude.{◌≡◌};
+ghost use Rattle.std.specs.Prelude.{◌≡◌, ◌≤◌};
 ghost use Rattle.picture.specs.Lawfulness.{inverse_lawful};
 ghost use Rattle.picture.specs.Kinds.{inverse_means};
 
@@ -18,8 +18,7 @@ impl<P> Inverse<P> {
     pub fn into_inner(self) -> P
         ensures { result ≡ self.inner }
     {
-        let Inverse { inner } = self;
-        inner
+        self.inner
     }
 }
 
@@ -37,9 +36,9 @@ impl<P: Picture> Picture for Inverse<P> {
     }
 
     fn dot(&self, x: u32, y: u32) -> Result<Option<u8>, Refusal> {
-        match self.inner.dot(x, y)? {
-            Some(gray) => Ok(Some(15 - gray)),
-            None => Ok(None),
-        }
+        let dot = self.inner.dot(x, y)?;
+        Ok(dot.map(|gray: u8| -> u8
+            requires { gray ≤ 15 }
+        { 15 - gray }))
     }
 }

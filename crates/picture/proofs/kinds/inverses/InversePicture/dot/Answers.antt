@@ -2,8 +2,8 @@
 use Rattle.picture.proofs.Shades.{answered_gray}
 use Rattle.picture.proofs.kinds.inverses.InversePicture.dot.Goals as goal
 
-pub overflow_sub-result : goal.overflow_sub-result
-overflow_sub-result g c =
+pub map-requires : goal.map-requires
+map-requires g c =
     let inner = c.args.self.now.inner in
-    let was = c.in_ok-gray.was in
-    answered_gray (g.P.Picture.means inner) c.args.x c.args.y c.in-Some.gray (g.P.Picture.lawful inner) (cc)
+    let was = c.in_ok-dot.was in
+    λ gray is. answered_gray (g.P.Picture.means inner) c.args.x c.args.y gray (g.P.Picture.lawful inner) (cc)

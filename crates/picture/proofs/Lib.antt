@@ -1,4 +1,3 @@
 pub mod Alike
-pub mod Fields
 pub mod Shades
 pub mod Within

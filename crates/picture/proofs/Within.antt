@@ -1,11 +1,8 @@
 -- Parts that lie wholly inside a picture.
-use Rattle.std.proofs.Common.{◌≡◌, ℕ, ◌+◌, ◌<◌, ◌≤◌, None, Ok, refl, arith}
+use Rattle.std.proofs.Common.{◌≡◌, ℕ, ◌+◌, ◌<◌, ◌≤◌, None, arith}
 use Rattle.std.proofs.lemmas.Bool.Decides.{nat_tests}
-use Rattle.picture.specs.declared.pictures.Picture.{Ghosts}
-use Rattle.picture.specs.declared.kinds.Crop.{Crop}
 use Rattle.picture.specs.Pictures.{PictureMeaning}
 use Rattle.picture.specs.Parts.{seen, crop_refusal}
-use Rattle.picture.specs.Kinds.{Cropped, CropMade}
 
 -- a part that is not empty and wholly inside
 pub record Within (p : PictureMeaning) (a b w h : ℕ) : Type 0 where
@@ -25,18 +22,3 @@ within_accepted p a b w h i = grind (arith, nat_tests)
 -- At a place that a picture has, its own dot is seen.
 pub seen_inside : (p : PictureMeaning) (x y : ℕ) → x < p.width → y < p.height → seen p x y ≡ p.dot x y
 seen_inside p x y i j = grind (arith, nat_tests)
-
--- A crop lies inside its picture, so its dots are the picture's.
-pub cropped : {P : Type 0} (k : Ghosts P) (c : Crop P k) → Cropped k c.inner c.left c.top c.size.width c.size.height c
-cropped k c = record {
-  keeps = refl;
-  means = refl;
-  shows = λ x y u v. seen_inside (k.means c.inner) (c.left + x) (c.top + y) (omega arith) (omega arith);
-}
-
-pub crop_within : {P : Type 0} (k : Ghosts P) (c : Crop P k) → Within (k.means c.inner) c.left c.top c.size.width c.size.height
-crop_within k c = record { wide = omega arith; high = omega arith; across = omega arith; down = omega arith }
-
--- A crop is made where it is accepted.
-pub crop_made : {P : Type 0} (k : Ghosts P) (c : Crop P k) → CropMade k c.inner c.left c.top c.size.width c.size.height (Ok c)
-crop_made k c = record { free = within_accepted _ _ _ _ _ (crop_within k c); right = cropped k c }

@@ -9,17 +9,10 @@ use Rattle.picture.specs.declared.kinds.Crop.{Crop}
 use Rattle.picture.specs.declared.kinds.Inverse.{Inverse}
 use Rattle.either.specs.declared.Either.{Either}
 use Rattle.either.specs.declared.Either.TheVariants.{Left, Right}
-use Rattle.picture.specs.declared.sizes.Size.{Size}
-use Rattle.picture.specs.Pictures.{PictureMeaning, inside, Shade, Extent, Lawful}
+use Rattle.picture.specs.Pictures.{PictureMeaning, inside, Shade, Lawful}
 use Rattle.picture.specs.Packed.{packed}
 use Rattle.picture.specs.Parts.{seen, inverted}
 use Rattle.picture.specs.Kinds.{bits_mean, grays_mean, crop_means, inverse_means, either_means}
-
-wide : (s : Size) → Extent s.width
-wide s = record { some = s.across.0; most = s.across.1 }
-
-high : (s : Size) → Extent s.height
-high s = record { some = s.down.0; most = s.down.1 }
 
 -- a dot that is chosen or clear is a shade if it is one where it is chosen
 chosen_shade : (b : Bool) (o : Option ℕ) → (T b → Shade o) → Shade (cond b o None)
@@ -42,18 +35,18 @@ inverted_shade None = tt
 
 pub bits_lawful : {B : Type 0} (k : BytesGhosts B) (p : BitPicture B) → Lawful (bits_mean k p)
 bits_lawful k p =
-    record { across = wide p.layout.size; down = high p.layout.size; shades = λ x y _ _. chosen_shade _ (Some p.gray) (λ _. p.shade) }
+    record { across = p.layout.size.across; down = p.layout.size.down; shades = λ x y _ _. chosen_shade _ (Some p.gray) (λ _. p.shade) }
 
 pub grays_lawful : {B : Type 0} (k : BytesGhosts B) (p : GrayPicture B) → Lawful (grays_mean k p)
 unfolding packed
 grays_lawful k p =
-    record { across = wide p.layout.size; down = high p.layout.size; shades = λ x y _ _. omega arith }
+    record { across = p.layout.size.across; down = p.layout.size.down; shades = λ x y _ _. omega arith }
 
 pub crop_lawful : {P : Type 0} (k : PictureGhosts P) (c : Crop P k) → Lawful (crop_means k c)
 crop_lawful k c =
     record {
-      across = wide c.size;
-      down = high c.size;
+      across = c.size.across;
+      down = c.size.down;
       shades = λ x y _ _. seen_shade (k.means c.inner) _ _ (k.lawful c.inner);
     }
 

@@ -1,5 +1,5 @@
 -- What a picture means, what it answers, and the laws that every picture keeps. Assumes nothing.
-use Rattle.std.specs.Prelude.{ℕ, ◌<◌, ◌≤◌, min, max, Bool, cond, ◌&&◌, Some, None, Ok, Err, Option, Result, nat_lt}
+use Rattle.std.specs.Prelude.{ℕ, ◌<◌, ◌≤◌, Bool, cond, ◌&&◌, Some, None, Ok, Err, Option, Result, nat_lt}
 use Rattle.refusal.specs.declared.refusals.Refusal.{Refusal}
 use Rattle.refusal.specs.declared.refusals.Refusal.TheVariants.{OutsidePicture}
 
@@ -26,10 +26,6 @@ Shade None = Unit {0}
 pub record Extent (n : ℕ) : Type 0 where
   pub some : 1 ≤ n
   pub most : n ≤ 128
-
--- the width or height nearest to a number
-abbrev pub to_extent : ℕ → ℕ
-to_extent n = max 1 (min n 128)
 
 -- the laws of a picture
 pub record Lawful (p : PictureMeaning) : Type 0 where

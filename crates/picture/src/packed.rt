@@ -54,7 +54,7 @@ impl<const DEPTH: u32> Layout<DEPTH> {
         ensures { result ≡ (if nat_lt x self.now.size.width && nat_lt y self.now.size.height
             then Ok (packed DEPTH bytes.now self.now.size.width x y) else Err OutsidePicture) }
     {
-        self.size.place(x, y)?;
+        self.size.check_place(x, y)?;
         let per_byte = 8 / DEPTH;
         let byte = bytes.get((y * self.row_bytes() + x / per_byte) as usize);
         Ok(self.field(byte.copied().unwrap_or(0), x % per_byte))

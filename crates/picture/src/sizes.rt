@@ -1,21 +1,22 @@
 // A picture's width and height.
 ghost use Rattle.std.specs.Prelude.{◌≡◌, ◌&&◌, ◌≤◌, ◌↔◌, nat_lt, IsTrue, IfSome, IsSome, if◌then◌else◌, Ok, Err};
 ghost use Rattle.refusal.specs.declared.refusals.Refusal.TheVariants.{OutsidePicture};
+ghost use Rattle.picture.specs.Pictures.{Extent};
 ghost use Rattle.picture.specs.Packed.{sized};
 
 use refusal::Refusal;
 
-// Each is 1 to 128.
+// A width and a height that a picture may have.
 #[derive(Clone, Copy)]
 pub struct Size {
     pub(crate) width: u32,
     pub(crate) height: u32,
-    ghost across: { (1 ≤ width) × (width ≤ 128) },
-    ghost down: { (1 ≤ height) × (height ≤ 128) },
+    ghost across: { Extent width },
+    ghost down: { Extent height },
 }
 
 impl Size {
-    // The size, if a picture may have it.
+    // None where the width or the height is outside 1 to 128.
     pub(crate) fn new(width: u32, height: u32) -> Option<Size>
         ensures some { IsSome result ↔ IsTrue (sized width && sized height) }
         ensures size { IfSome result (λ size. (size.width ≡ width) × (size.height ≡ height)) }
@@ -27,8 +28,8 @@ impl Size {
         }
     }
 
-    // Refuses a place (x, y) that a picture of this size has not.
-    pub(crate) fn place(self, x: u32, y: u32) -> Result<(), Refusal>
+    // Refuses a place that a picture of this size has not.
+    pub(crate) fn check_place(self, x: u32, y: u32) -> Result<(), Refusal>
         ensures { result ≡ (if nat_lt x self.width && nat_lt y self.height then Ok tt else Err OutsidePicture) }
     {
         if x < self.width && y < self.height {

@@ -14,7 +14,11 @@ impl<B: Bytes> BitPicture<B> {
         ensures { BitsMade B.Bytes bytes width height gray result }
     {
         let refusal = match Layout::new(bytes.all(), width, height) {
-            Ok(layout) if gray <= 15 => return Ok(BitPicture { bytes, layout, gray }),
+            Ok(layout) if gray <= 15 => return Ok(BitPicture {
+                bytes,
+                layout,
+                gray,
+            }),
             Ok(_) => Refusal::Gray,
             Err(refusal) => refusal,
         };

@@ -23,11 +23,7 @@ impl<P: Picture> Crop<P> {
         let high = inner.height();
         match Size::new(width, height) {
             Some(size)
-                if left <= wide
-                    && width <= wide - left
-                    && top <= high
-                    && height <= high - top =>
-            {
+                if left <= wide && width <= wide - left && top <= high && height <= high - top => {
                 Ok(Crop {
                     inner,
                     left,
@@ -64,7 +60,7 @@ impl<P: Picture> Picture for Crop<P> {
     }
 
     fn dot(&self, x: u32, y: u32) -> Result<Option<u8>, Refusal> {
-        self.size.place(x, y)?;
+        self.size.check_place(x, y)?;
         self.inner.dot(self.left + x, self.top + y)
     }
 }

@@ -37,8 +37,10 @@ impl<P: Picture> Picture for Inverse<P> {
 
     fn dot(&self, x: u32, y: u32) -> Result<Option<u8>, Refusal> {
         let dot = self.inner.dot(x, y)?;
-        Ok(dot.map(|gray: u8| -> u8
-            requires { gray ≤ 15 }
-        { 15 - gray }))
+        Ok(dot.map(
+            |gray: u8| -> u8
+                requires { gray ≤ 15 }
+            { 15 - gray },
+        ))
     }
 }

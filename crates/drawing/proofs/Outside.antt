@@ -56,12 +56,11 @@ covered_inside x y w h p q hp hq = rw (clamp_from x p hp, clamp_to (x +ℤ pos w
 from_zero : (n : ℕ) → behind (pos n -ℤ pos 0) ≡ Some n
 from_zero n = let e : pos n -ℤ pos 0 ≡ pos n = omega (arith, ints) in ap behind e
 
-pub solid_placed : (g p q : ℕ) → g ≤ 15 → p < 128 → q < 128 → placed (solid g) (pos 0) (pos 0) p q ≡ Some g
+pub solid_placed : (g p q : ℕ) → p < 128 → q < 128 → placed (solid g) (pos 0) (pos 0) p q ≡ Some g
 unfolding placed
-solid_placed g p q hg hp hq =
-    let least : min g 15 ≡ g = omega arith in
+solid_placed g p q hp hq =
     ap (λ o. at_both (seen (solid g)) o (behind (pos q -ℤ pos 0))) (from_zero p) ∙ ap (λ o. at_both (seen (solid g)) (Some p) o) (from_zero q)
-    ∙ rw (lt-ltb p 128 hp, lt-ltb q 128 hq, least)
+    ∙ rw (lt-ltb p 128 hp, lt-ltb q 128 hq)
 
 -- nothing is shown outside the rectangle of a picture
 behind_some : (z : ℤ) (m : ℕ) → behind z ≡ Some m → z ≡ pos m
@@ -89,11 +88,11 @@ placed_outside P x y p q e =
     (⊎_elim (λ c. inl (λ m s. too_far x P.width p m c s)) (λ c. inr (λ m s. too_far y P.height q m c s)) (and_cases (covers x P.width p) (covers y P.height q) e))
 
 -- a bar is filled with one gray
-pub bar_drawn : (c d : Canvas) (pen : PenMeaning) (x y : ℤ) (w h : ℕ) → pen.ink ≤ 15
+pub bar_drawn : (c d : Canvas) (pen : PenMeaning) (x y : ℤ) (w h : ℕ)
     → Drawn c (clipped (placed (solid pen.ink) (pos 0) (pos 0)) (common pen.clip (covered x y w h))) d → Drawn c (bar_paint pen x y w h) d
-bar_drawn c d pen x y w h small so =
+bar_drawn c d pen x y w h so =
     drawn_like c d _ (bar_paint pen x y w h)
-    (λ p q hp hq. ap (λ o. cond (inside (common pen.clip (covered x y w h)) p q) o None) (solid_placed pen.ink p q small hp hq)
+    (λ p q hp hq. ap (λ o. cond (inside (common pen.clip (covered x y w h)) p q) o None) (solid_placed pen.ink p q hp hq)
     ∙ ap (λ b. cond b (Some pen.ink) None) (common_inside pen.clip (covered x y w h) p q ∙ ap (λ b. inside pen.clip p q && b) (covered_inside x y w h p q hp hq))) so
 
 cut : (a b : Bool) (o : Option ℕ) → (b ≡ false → o ≡ None) → cond (a && b) o None ≡ cond a o None
@@ -109,30 +108,3 @@ place_drawn c d pen P x y so =
     drawn_like c d _ (place_paint pen P x y)
     (λ p q hp hq. ap (λ b. cond b (placed P x y p q) None) (common_inside pen.clip (covered x y P.width P.height) p q ∙ ap (λ b. inside pen.clip p q && b) (covered_inside x y P.width P.height p q hp hq))
     ∙ cut (inside pen.clip p q) (covers x P.width p && covers y P.height q) (placed P x y p q) (placed_outside P x y p q)) so
-
--- a size that is not refused leaves the position to be judged
-pub sized : (x y : ℤ) (w h : ℕ) → w ≤ 255 → h ≤ 255 → rectangle_refusal x y w h ≡ position_refusal x y
-sized x y w h hw hh = rw (le-leb w 255 hw, le-leb h 255 hh)
-
--- what a picture answers for a dot is what it shows there
-answered : (b : Bool) (P : PictureMeaning) (i j : ℕ) (o : Option ℕ) → inside-picture P i j ≡ b → Ok o ≡ cond b (Ok (P.dot i j)) (Err OutsidePicture) → o ≡ cond b (P.dot i j) None
-answered true P i j o e a = cc
-answered false P i j o e a = let z : ◌≡◌ {A = ℕ} 0 1 = cc in absurd (omega arith)
-
-pub seen_answer : (P : PictureMeaning) (i j : ℕ) (o : Option ℕ) → Ok o ≡ dot_answer P i j → o ≡ seen P i j
-seen_answer P i j o a = answered (inside-picture P i j) P i j o refl a
-
-refused : (b : Bool) (P : PictureMeaning) (i j : ℕ) (e : Refusal) → Err e ≡ cond b (Ok (P.dot i j)) (Err OutsidePicture) → cond b (P.dot i j) None ≡ None
-refused true P i j e a = let z : ◌≡◌ {A = ℕ} 0 1 = cc in absurd (omega arith)
-refused false P i j e a = refl
-
-pub seen_refusal : (P : PictureMeaning) (i j : ℕ) (e : Refusal) → Err e ≡ dot_answer P i j → seen P i j ≡ None
-seen_refusal P i j e a = refused (inside-picture P i j) P i j e a
-
-pub seen_shade : (P : PictureMeaning) (i j : ℕ) (o : Option ℕ) → Lawful P → Ok o ≡ dot_answer P i j → Shade o
-seen_shade P i j None l a = tt
-seen_shade P i j (Some g) l a = answered_gray P i j g l a
-
-pub placed_at : (P : PictureMeaning) (x y : ℤ) (p q i j : ℕ) → Some i ≡ behind (pos p -ℤ x) → Some j ≡ behind (pos q -ℤ y) → seen P i j ≡ placed P x y p q
-unfolding placed
-placed_at P x y p q i j a b = ap (λ o. at_both (seen P) (Some i) o) b ∙ ap (λ o. at_both (seen P) o (behind (pos q -ℤ y))) a

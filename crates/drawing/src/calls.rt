@@ -1,4 +1,5 @@
 // The drawing calls on a canvas.
+ghost use Rattle.std.specs.Prelude.{◌≤◌};
 ghost use Rattle.drawing.specs.Book.{bars, dots, places, ByTheBook};
 ghost use Rattle.drawing.specs.Drawing.{DotStep, BarStep, PlaceStep};
 ghost use Rattle.drawing.specs.Pens.{pen_means};
@@ -15,12 +16,13 @@ use refusal::Refusal;
 #[derive(Clone, Copy)]
 struct Solid {
     gray: u8,
+    ghost shade: { gray ≤ 15 },
 }
 
 impl Picture for Solid {
     ghost means = { λ s. solid s.gray };
 
-    ghost lawful = { λ s. solid_lawful s.gray };
+    ghost lawful = { λ s. solid_lawful s.gray s.shade };
 
     fn width(&self) -> u32 {
         128
@@ -32,7 +34,7 @@ impl Picture for Solid {
 
     fn dot(&self, x: u32, y: u32) -> Result<Option<u8>, Refusal> {
         if x < 128 && y < 128 {
-            Ok(Some(self.gray.min(15)))
+            Ok(Some(self.gray))
         } else {
             Err(Refusal::OutsidePicture)
         }
@@ -50,7 +52,7 @@ impl Canvas {
         let ink = Solid {
             gray: pen.setting.ink,
         };
-        self.fill(part, &ink, Corner { x: 0, y: 0 });
+        self.fill(part, &ink, Corner::ORIGIN);
         Ok(())
     }
 
@@ -73,12 +75,10 @@ impl Canvas {
         ensures painted { PlaceStep (pen_means pen.now) (P.means picture.now) x y self.old result self.new }
         ensures book { ByTheBook (places (P.means picture.now) x y) (pen_means pen.now) self.old self.new }
     {
-        let rectangle = match Rectangle::new(x, y, picture.width(), picture.height()) {
-            Ok(rectangle) => rectangle,
-            Err(refusal) => return Err(refusal),
-        };
+        let corner = Corner::new(x, y)?;
+        let rectangle = Rectangle::at(corner, picture.width(), picture.height());
         let part = pen.setting.clip.common(rectangle);
-        self.fill(part, picture, Corner { x, y });
+        self.fill(part, picture, corner);
         Ok(())
     }
 }

@@ -1,4 +1,6 @@
 // The canvas.
+ghost use Rattle.std.specs.Prelude.{◌<◌};
+
 mod fresh;
 mod looks;
 mod put;
@@ -10,4 +12,13 @@ mod put;
 pub struct Canvas {
     pub cells: [u8; 8192],
     pub due: [u64; 128],
+}
+
+// Where a dot of the canvas is.
+#[derive(Clone, Copy)]
+pub(crate) struct Dot {
+    pub(crate) x: usize,
+    pub(crate) y: usize,
+    ghost across: { x < 128 },
+    ghost down: { y < 128 },
 }

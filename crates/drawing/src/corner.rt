@@ -1,11 +1,53 @@
-// Where a picture's first dot goes.
-ghost use Rattle.std.specs.Prelude.{pos, negsuc, ◌≤ℤ◌};
+// Positions that a caller names.
+ghost use Rattle.std.specs.Prelude.{◌≡◌, ◌<◌, ◌≤ℤ◌, ◌-ℤ◌, pos, negsuc, Some, None, IfOk, IfErr};
+ghost use Rattle.drawing.specs.Clips.{position_refusal};
+ghost use Rattle.drawing.specs.Drawing.{behind};
 
-// Each part is −1,024 to 1,023.
+use refusal::Refusal;
+
+// One part of a position, −1,024 to 1,023.
+#[derive(Clone, Copy)]
+pub(crate) struct Reach {
+    pub(crate) at: i32,
+    ghost low: { negsuc 1023 ≤ℤ at },
+    ghost high: { at ≤ℤ pos 1023 },
+}
+
+impl Reach {
+    // How far a place lies behind this one, if it does.
+    pub(crate) fn offset(self, place: usize) -> Option<u32>
+        requires { place < 128 }
+        ensures { result ≡ behind (pos place -ℤ self.at) }
+    {
+        u32::try_from(place as i32 - self.at).ok()
+    }
+}
+
+// Where a picture's first dot goes.
 #[derive(Clone, Copy)]
 pub(crate) struct Corner {
-    pub(crate) x: i32,
-    pub(crate) y: i32,
-    ghost across: { (negsuc 1023 ≤ℤ x) × (x ≤ℤ pos 1023) },
-    ghost down: { (negsuc 1023 ≤ℤ y) × (y ≤ℤ pos 1023) },
+    pub(crate) x: Reach,
+    pub(crate) y: Reach,
+}
+
+impl Corner {
+    pub(crate) const ORIGIN: Corner = Corner {
+        x: Reach { at: 0 },
+        y: Reach { at: 0 },
+    };
+
+    // Refused outside −1,024 to 1,023.
+    pub(crate) fn new(x: i32, y: i32) -> Result<Corner, Refusal>
+        ensures ok { IfOk result (λ corner. (position_refusal x y ≡ None) × (corner.x.at ≡ x) × (corner.y.at ≡ y)) }
+        ensures err { IfErr result (λ refusal. position_refusal x y ≡ Some refusal) }
+    {
+        if (-1024..=1023).contains(&x) && (-1024..=1023).contains(&y) {
+            Ok(Corner {
+                x: Reach { at: x },
+                y: Reach { at: y },
+            })
+        } else {
+            Err(Refusal::Position)
+        }
+    }
 }

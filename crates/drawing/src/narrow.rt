@@ -18,8 +18,8 @@ impl Drop for Narrowed<'_> {
     fn drop(self)
         ensures { self.exit.0.now.setting ≡ self.entry.was }
     {
-        self.pen.setting = self.was;
-        let Narrowed { pen: _, was: _ } = self;
+        let Narrowed { pen, was } = self;
+        pen.setting = was;
     }
 }
 
@@ -32,10 +32,7 @@ impl Pen {
         ensures book { Narrowing (area rectangle.part) (pen_means self.old) (pen_means result.pen.now) }
     {
         let was = self.setting;
-        self.setting = Setting {
-            ink: was.ink,
-            clip: was.clip.common(rectangle),
-        };
+        self.setting.clip = was.clip.common(rectangle);
         Narrowed { pen: self, was }
     }
 }

@@ -1,8 +1,9 @@
 // A rectangle that a caller names, and what of it lies on the canvas.
-ghost use Rattle.std.specs.Prelude.{◌≡◌, ◌≤◌, pos, negsuc, ◌+ℤ◌, ◌≤ℤ◌};
-ghost use Rattle.drawing.specs.Clips.{clamp, area, covered, common, joint, span_side, Boxed};
+ghost use Rattle.std.specs.Prelude.{◌≡◌, ◌≤◌, ◌==◌, pos, ◌+ℤ◌};
+ghost use Rattle.drawing.specs.Clips.{clamp, area, covered, common, empty, joint, span_side, Boxed};
 
 use crate::clip::Clip;
+use crate::corner::{Corner, Reach};
 use crate::span::Span;
 use refusal::Refusal;
 
@@ -17,24 +18,25 @@ fn clamp(z: i32) -> u8
     ensures value { result ≡ clamp z }
     ensures bound { result ≤ 128 }
 {
-    if z < 0 {
-        0
-    } else if z > 128 {
-        128
-    } else {
-        z as u8
-    }
+    z.clamp(0, 128) as u8
 }
 
 impl Span {
-    // What of `len` places from `at` on lies within 0 to 127.
-    fn of(at: i32, len: u32) -> Span
-        requires { (negsuc 1023 ≤ℤ at) × (at ≤ℤ pos 1023) × (len ≤ 255) }
-        ensures { (result.from ≡ clamp at) × (result.to ≡ clamp (at +ℤ pos len)) }
+    // What of `len` places from a position on lies within 0 to 127.
+    fn of(from: Reach, len: u32) -> Span
+        requires { len ≤ 255 }
+        ensures { (result.from ≡ clamp from.at) × (result.to ≡ clamp (from.at +ℤ pos len)) }
     {
-        let from = clamp(at);
-        let to = clamp(at + len as i32);
-        Span { from, to }
+        Span {
+            from: clamp(from.at),
+            to: clamp(from.at + len as i32),
+        }
+    }
+
+    fn is_empty(self) -> bool
+        ensures { result ≡ empty (span_side self) }
+    {
+        self.from == self.to
     }
 
     // The places of both, 0 to before 0 if there are none.
@@ -46,7 +48,7 @@ impl Span {
         if from < to {
             Span { from, to }
         } else {
-            Span { from: 0, to: 0 }
+            Span::NONE
         }
     }
 }
@@ -56,18 +58,24 @@ impl Rectangle {
     pub fn new(x: i32, y: i32, w: u32, h: u32) -> Result<Rectangle, Refusal>
         ensures { Boxed x y w h result }
     {
-        if x < -1024 || x > 1023 || y < -1024 || y > 1023 {
-            return Err(Refusal::Position);
-        }
+        let corner = Corner::new(x, y)?;
         if w > 255 || h > 255 {
             return Err(Refusal::Size);
         }
-        Ok(Rectangle {
+        Ok(Rectangle::at(corner, w, h))
+    }
+
+    // The same of a corner, for a size that needs no test.
+    pub(crate) fn at(corner: Corner, w: u32, h: u32) -> Rectangle
+        requires { (w ≤ 255) × (h ≤ 255) }
+        ensures { area result.part ≡ covered corner.x.at corner.y.at w h }
+    {
+        Rectangle {
             part: Clip {
-                across: Span::of(x, w),
-                down: Span::of(y, h),
+                across: Span::of(corner.x, w),
+                down: Span::of(corner.y, h),
             },
-        })
+        }
     }
 }
 
@@ -78,11 +86,10 @@ impl Clip {
     {
         let across = self.across.common(rectangle.part.across);
         let down = self.down.common(rectangle.part.down);
-        if across.from == across.to || down.from == down.to {
-            let none = Span { from: 0, to: 0 };
+        if across.is_empty() || down.is_empty() {
             Clip {
-                across: none,
-                down: none,
+                across: Span::NONE,
+                down: Span::NONE,
             }
         } else {
             Clip { across, down }

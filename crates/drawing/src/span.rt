@@ -9,3 +9,8 @@ pub(crate) struct Span {
     ghost forward: { from ≤ to },
     ghost within: { to ≤ 128 },
 }
+
+impl Span {
+    pub(crate) const NONE: Span = Span { from: 0, to: 0 };
+    pub(crate) const ALL: Span = Span { from: 0, to: 128 };
+}

@@ -7,23 +7,15 @@ use refusal::Refusal;
 use std::test::Fail;
 
 fn rectangle(x: i32, y: i32, w: u32, h: u32) -> Result<Rectangle, Fail> {
-    match Rectangle::new(x, y, w, h) {
-        Ok(r) => Ok(r),
-        Err(_) => Err(Fail::new("rectangle refused")),
-    }
+    Rectangle::new(x, y, w, h).map_err(|_| Fail::new("rectangle refused"))
 }
 
 // How many dots of the canvas have a gray.
-fn dots(c: &Canvas, gray: u8) -> u32 {
-    let mut n: u32 = 0;
-    for y in 0..128 {
-        for x in 0..128 {
-            if c.gray(x, y) == Ok(gray) {
-                n = n.saturating_add(1);
-            }
-        }
-    }
-    n
+fn dots(c: &Canvas, gray: u8) -> usize {
+    (0..128)
+        .flat_map(|y| (0..128).map(move |x| (x, y)))
+        .filter(|&(x, y)| c.gray(x, y) == Ok(gray))
+        .count()
 }
 
 #[test]

@@ -13,13 +13,12 @@ impl Pen {
     pub fn new() -> Pen
         ensures { pen_means result ≡ fresh_pen }
     {
-        let side = Span { from: 0, to: 128 };
         Pen {
             setting: Setting {
                 ink: 15,
                 clip: Clip {
-                    across: side,
-                    down: side,
+                    across: Span::ALL,
+                    down: Span::ALL,
                 },
             },
         }
@@ -33,10 +32,7 @@ impl Pen {
         if gray > 15 {
             return Err(Refusal::Gray);
         }
-        self.setting = Setting {
-            ink: gray,
-            clip: self.setting.clip,
-        };
+        self.setting.ink = gray;
         Ok(())
     }
 }

@@ -4,4 +4,4 @@ use Rattle.drawing.proofs.canvas.Canvas.fill.Given as goal
 
 abbrev pub invariant-loop-y : goal.invariant-loop-y
 invariant-loop-y g l =
-    Drawn l.initial.self (ruled (placed (g.P.Picture.means l.picture) l.at.x l.at.y) (span_side l.clip.across) l.initial.y l.y) l.self
+    Drawn l.initial.self (ruled (placed (g.P.Picture.means l.picture) l.at.x.at l.at.y.at) (span_side l.clip.across) l.initial.y l.y) l.self

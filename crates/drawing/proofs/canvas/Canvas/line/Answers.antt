@@ -6,7 +6,7 @@ use Rattle.drawing.proofs.canvas.Canvas.line.Goals.{in-Some, in_default}
 
 pub loop-x-preserved : goal.loop-x-preserved
 loop-x-preserved g c =
-    let t : Paint = placed (g.P.Picture.means c.args.picture.now) c.args.at.x c.args.at.y in
+    let t : Paint = placed (g.P.Picture.means c.args.picture.now) c.args.at.x.at c.args.at.y.at in
     let a : c.args.across.from ≤ c.loop-x.x = omega arith in
     elim c.match-tint.branch [
       | in-Some w ↦ simp w.self-is (line_some c.args.self.now c.loop-x.self w.put.new.self t c.args.across.from c.loop-x.x c.args.y w.in-Some.gray a

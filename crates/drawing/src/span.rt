@@ -12,5 +12,6 @@ pub(crate) struct Span {
 
 impl Span {
     pub(crate) const NONE: Span = Span { from: 0, to: 0 };
+
     pub(crate) const ALL: Span = Span { from: 0, to: 128 };
 }

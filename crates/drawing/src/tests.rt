@@ -12,9 +12,8 @@ fn rectangle(x: i32, y: i32, w: u32, h: u32) -> Result<Rectangle, Fail> {
 
 // How many dots of the canvas have a gray.
 fn dots(c: &Canvas, gray: u8) -> usize {
-    (0..128)
-        .flat_map(|y| (0..128).map(move |x| (x, y)))
-        .filter(|&(x, y)| c.gray(x, y) == Ok(gray))
+    (0..128 * 128)
+        .filter(|place| c.gray(place % 128, place / 128) == Ok(gray))
         .count()
 }
 

@@ -1,16 +1,13 @@
 -- Filling the common part of a clip and a rectangle draws within both, and a picture shows nothing outside its rectangle.
-use Rattle.std.proofs.Common.{◌≡◌, ℕ, ◌<◌, ◌≤◌, min, Bool, true, false, cond, ◌&&◌, ◌||◌, ltb, leb, ◌⊎◌, ℤ, pos, negsuc, ◌+ℤ◌, ◌-ℤ◌, Some, None, Ok, Err, Option, sym, refl, ap, ◌∙◌, inl, inr, ⊎_elim, arith}
+use Rattle.std.proofs.Common.{◌≡◌, ℕ, ◌<◌, Bool, true, false, cond, ◌&&◌, ◌||◌, ltb, leb, ◌⊎◌, ℤ, pos, negsuc, ◌+ℤ◌, ◌-ℤ◌, Some, None, Option, sym, refl, ap, ◌∙◌, inl, inr, ⊎_elim, arith}
 use lib.Signed.{le_z, lt_z}
 use Rattle.std.proofs.lemmas.Int.{ints}
-use Rattle.std.proofs.lemmas.Bool.{cases_lt, lt-ltb, le-ltb, le-leb, and_cases, or_cases}
+use Rattle.std.proofs.lemmas.Bool.{cases_lt, lt-ltb, le-ltb, and_cases, or_cases}
 use Rattle.std.proofs.lemmas.Bool.Decides.{nat_tests}
-use Rattle.refusal.specs.declared.refusals.Refusal.{Refusal}
-use Rattle.refusal.specs.declared.refusals.Refusal.TheVariants.{OutsidePicture}
-use Rattle.picture.specs.Pictures.{PictureMeaning, inside as inside-picture, dot_answer, Shade, Lawful}
-use Rattle.picture.proofs.Shades.{answered_gray}
+use Rattle.picture.specs.Pictures.{PictureMeaning}
 use Rattle.picture.specs.Parts.{seen}
 use Rattle.drawing.specs.declared.canvas.Canvas.{Canvas}
-use Rattle.drawing.specs.Clips.{Side, Area, box, holds, inside, covers, clamp, covered, joint, empty, common, position_refusal, rectangle_refusal}
+use Rattle.drawing.specs.Clips.{Side, Area, box, holds, inside, covers, clamp, covered, joint, empty, common}
 use Rattle.drawing.specs.Drawing.{Drawn, clipped, behind, at_both, placed, bar_paint, place_paint}
 use Rattle.drawing.specs.Pens.{PenMeaning}
 use Rattle.drawing.specs.Solids.{solid}

@@ -35,6 +35,7 @@ impl Canvas {
     }
 
     // Only dots of the clip are looked at.
+    #[tactic(auto, using(crate::proofs::Steps::rule_more))]
     pub(crate) fn fill<P: Picture>(&mut self, clip: Clip, picture: &P, at: Corner)
         ensures { Drawn self.old (clipped (placed (P.means picture.now) at.x.at at.y.at) (area clip)) self.new }
     {

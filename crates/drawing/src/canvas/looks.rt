@@ -8,6 +8,7 @@ use refusal::Refusal;
 
 impl Canvas {
     // The gray of a dot; a position above 127 is refused.
+    #[tactic(auto, unfolding(crate::specs::Dots::gray))]
     pub fn gray(&self, x: u32, y: u32) -> Result<u8, Refusal>
         ensures { result ≡ (if nat_lt x 128 && nat_lt y 128 then Ok (gray self.now x y) else Err Position) }
     {
@@ -19,6 +20,7 @@ impl Canvas {
     }
 
     // Whether a byte is due; a line above 127 or a column above 63 is refused.
+    #[tactic(auto, unfolding(crate::specs::Dots::due, marks::specs::Marks::bit))]
     pub fn is_due(&self, line: u32, column: u32) -> Result<bool, Refusal>
         ensures { result ≡ (if nat_lt line 128 && nat_lt column 64 then Ok (due self.now line column) else Err Position) }
     {

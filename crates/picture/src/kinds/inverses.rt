@@ -35,6 +35,7 @@ impl<P: Picture> Picture for Inverse<P> {
         self.inner.height()
     }
 
+    #[tactic(auto, using(crate::proofs::Shades::answered_gray))]
     fn dot(&self, x: u32, y: u32) -> Result<Option<u8>, Refusal> {
         let dot = self.inner.dot(x, y)?;
         Ok(dot.map(

@@ -5,11 +5,11 @@ use Rattle.refusal.specs.declared.refusals.Refusal.{Refusal}
 use Rattle.ssd1329.specs.declared.transfer.Transfer.{Transfer}
 use Rattle.ssd1329.specs.declared.transfer.Transfer.TheVariants.{Command}
 use Rattle.ssd1329.specs.Wiring.{settings_for}
-use Rattle.link.specs.Links.{LinkMeaning, open_answer, open_after, send_answer, send_after, close_answer, CloseAfter}
+use Rattle.link.specs.Links.{LinkMeaning, open_answer, open_after, close_answer, CloseAfter}
 use Rattle.marks.specs.Blocks.{traffic, bytes_due, worth}
-use Rattle.marks.specs.Sending.{Enough, sent_all, Sweeping, Swept, InOneBlock}
+use Rattle.marks.specs.Sending.{sent_all, Sweeping, Swept, InOneBlock}
 use Rattle.marks.proofs.Over.{swept_over, swept_moves, swept_most, swept_all, swept_count, swept_blocks, swept_box, swept_box_all}
-use Rattle.marks.proofs.Sends.{sent_then, one_sent, enough_then}
+use Rattle.marks.proofs.Sends.{sent_then}
 use Rattle.marks.proofs.Sessions.{session}
 use Rattle.screen.specs.declared.answers.FlushFault.{FlushFault}
 use Rattle.screen.specs.declared.answers.FlushFault.TheVariants as by
@@ -17,7 +17,7 @@ use Rattle.screen.specs.Flushing.{remap_sent, offset_sent, complete, closing, se
 use Rattle.screen.specs.Screens.{ScreenMeaning}
 use Rattle.screen.proofs.Settings.{two, setting_long, sent_now}
 
-module _ (s t : ScreenMeaning) (o p0 p1 p q : LinkMeaning) (n grant free rest left : ℕ) (sr cr : Result (Unit {0}) Refusal)
+module _ (s t : ScreenMeaning) (o p0 p1 p q : LinkMeaning) (n grant free rest left count : ℕ) (cr : Result (Unit {0}) Refusal)
     (busy : (s.lit && complete s) ≡ false)
     (opens : Ok grant ≡ open_answer s.link n) (opened : o ≡ open_after s.link (Ok grant))
     (remapped : p0 ≡ sent_all o (remap_sent s t)) (remap_left : free + length (remap_sent s t) ≡ grant)
@@ -25,7 +25,7 @@ module _ (s t : ScreenMeaning) (o p0 p1 p q : LinkMeaning) (n grant free rest le
     (w : Swept p1 s.canvas.cells s.canvas.due rest p t.canvas.due left)
     (fits : (k : ℕ) → k < length t.canvas.due → get_or t.canvas.due k 0 < 2 ^ 64)
     (wide : length s.canvas.cells ≡ 8192)
-    (sent : sr ≡ send_answer p.slot) (sends : q ≡ send_after p (Command (closing s.lit (complete t))) sr)
+    (closes : q ≡ sent_all p (Command (closing s.lit (complete t)) ∷ [])) (counts : count ≡ grant - left + 1)
     (shut : cr ≡ close_answer q.slot) (shuts : CloseAfter q cr t.link)
     (cells : t.canvas.cells ≡ s.canvas.cells) (wiring : t.wiring ≡ s.wiring) (lit : t.lit ≡ (s.lit || complete t))
     (remap_owed : t.remap_owed ≡ (s.remap_owed && ltb grant 3)) (offset_owed : t.offset_owed ≡ (s.offset_owed && ltb free 3)) where
@@ -63,20 +63,8 @@ module _ (s t : ScreenMeaning) (o p0 p1 p q : LinkMeaning) (n grant free rest le
   few_os : length os ≤ cond s.offset_owed 2 0
   few_os = setting_long 0xA2 (settings_for s.wiring).offset s.offset_owed t.offset_owed
 
-  opened_for : Enough o.slot grant
-  opened_for = subst (λ (x : LinkMeaning). Enough x.slot grant) (sym opened) (omega arith)
-
-  first : Enough p0.slot free
-  first = enough_then o p0 rs free grant remapped opened_for (omega (arith, remap_left))
-
-  second : Enough p1.slot rest
-  second = enough_then p0 p1 os rest free offsets first (omega (arith, offset_left))
-
-  enough : Enough p.slot 1
-  enough = enough_then p1 p ts 1 rest h.sends second (omega (arith, h.spent, h.reserve))
-
   all_sent : q ≡ sent_all o all_of
-  all_sent = sent_then o p0 q rs _ remapped (sent_then p0 p1 q os _ offsets (sent_then p1 p q ts (last ∷ []) h.sends (one_sent p q last sr enough sent sends)))
+  all_sent = sent_then o p0 q rs _ remapped (sent_then p0 p1 q os _ offsets (sent_then p1 p q ts (last ∷ []) h.sends closes))
 
   two_owed : (b : Bool) → b ≡ true → 2 ≤ cond b 2 0
   two_owed b e = subst (λ x. 2 ≤ cond x 2 0) (sym e) (omega arith)
@@ -99,8 +87,8 @@ module _ (s t : ScreenMeaning) (o p0 p1 p q : LinkMeaning) (n grant free rest le
       (λ less. inr less)
       (swept_moves p1 s.canvas.cells s.canvas.due rest p t.canvas.due left w (omega (arith, few_rs, few_os, remap_left, offset_left)))
 
-  pub counted : grant - left + 1 ≡ length (sending s h.blocks t)
-  counted = omega (arith, long, remap_left, offset_left, h.spent)
+  pub counted : count ≡ length (sending s h.blocks t)
+  counted = omega (arith, counts, long, remap_left, offset_left, h.spent)
 
   pub flush_is : Flushed s n t
   flush_is = record {
@@ -122,8 +110,8 @@ module _ (s t : ScreenMeaning) (o p0 p1 p q : LinkMeaning) (n grant free rest le
   }
 
   -- where the bytes of one block were due, one window was enough
-  in_one_window : InOneBlock s.canvas.due rest t.canvas.due left → (count : ℕ) → count ≡ grant - left + 1 → InOneWindow s n count t
-  in_one_window one count is = record {
+  in_one_window : InOneBlock s.canvas.due rest t.canvas.due left → (told : ℕ) → told ≡ count → InOneWindow s n told t
+  in_one_window one told is = record {
     most = λ b box. omega (arith, counted, long, few_rs, few_os, swept_box p1 s.canvas.cells s.canvas.due rest p t.canvas.due left w one b box);
     all = λ b box g granted room.
         let same : ◌≡◌ {A = Result ℕ Refusal} (Ok grant) (Ok g) = opens ∙ granted in
@@ -132,13 +120,13 @@ module _ (s t : ScreenMeaning) (o p0 p1 p q : LinkMeaning) (n grant free rest le
   }
 
   window_is : InOneBlock s.canvas.due rest t.canvas.due left → (told : Bool) (due : ℕ) (r : Result ℕ FlushFault)
-      → Told told (grant - left + 1) due t.canvas.due r → WindowStep s n r t
+      → Told told count due t.canvas.due r → WindowStep s n r t
   window_is one told due (Ok m) so = in_one_window one m so.1
   window_is one told due (Err (by.Refused e)) so = tt
   window_is one told due (Err (by.LeftOver l)) so = in_one_window one l.count so.1
 
   pub told_is : (told : Bool) (due : ℕ) (r : Result ℕ FlushFault) → told ≡ complete t → due ≡ bytes_due t.canvas.due
-      → Told told (grant - left + 1) due t.canvas.due r → FlushStep s n r t
+      → Told told count due t.canvas.due r → FlushStep s n r t
   unfolding flush_is
   told_is told due (Ok m) is due_is so = record { flushed = flush_is; all = sym is ∙ so.0; counted = so.1 ∙ counted }
   told_is told due (Err (by.Refused e)) is due_is so = absurd so
@@ -147,5 +135,5 @@ module _ (s t : ScreenMeaning) (o p0 p1 p q : LinkMeaning) (n grant free rest le
 
   -- both of what a flush says
   pub flush_told : (told : Bool) (due : ℕ) (r : Result ℕ FlushFault) → told ≡ complete t → due ≡ bytes_due t.canvas.due
-      → Told told (grant - left + 1) due t.canvas.due r → InOneBlock s.canvas.due rest t.canvas.due left → FlushStep s n r t × WindowStep s n r t
+      → Told told count due t.canvas.due r → InOneBlock s.canvas.due rest t.canvas.due left → FlushStep s n r t × WindowStep s n r t
   flush_told told due r is due_is so one = (told_is told due r is due_is so, window_is one told due r so)

@@ -13,3 +13,4 @@ pub mod Sent
 pub mod Settings
 pub mod Sound
 pub mod Starts
+pub mod Sending

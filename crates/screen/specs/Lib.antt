@@ -4,4 +4,4 @@ pub mod Flushing
 pub mod Lives
 pub mod Screens
 pub mod Scripts
-pub mod Transfers
+pub mod Slots

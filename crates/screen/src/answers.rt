@@ -1,4 +1,7 @@
 // What a flush answers.
+ghost use Rattle.std.specs.Prelude.{◌≡◌};
+ghost use Rattle.screen.specs.declared.answers.FlushFault.TheVariants.{Refused};
+
 use refusal::Refusal;
 
 // A byte of the canvas.
@@ -9,7 +12,7 @@ pub struct Place {
 }
 
 // What a flush had no room for.
-#[derive(Clone, Copy)]
+#[derive(Clone, Copy, PartialEq, Eq, Debug)]
 pub struct LeftOver {
     // how many transfers it sent
     pub count: u32,
@@ -18,10 +21,19 @@ pub struct LeftOver {
     pub first: Option<Place>,
 }
 
-#[derive(Clone, Copy)]
+#[derive(Clone, Copy, PartialEq, Eq, Debug)]
 pub enum FlushFault {
     // nothing was sent
     Refused(Refusal),
     // something is left to send
     LeftOver(LeftOver),
+}
+
+// A refused flush is a refusal by `?`.
+impl From<Refusal> for FlushFault {
+    ghost from_gives = { λ refusal fault. fault ≡ Refused refusal };
+
+    fn from(refusal: Refusal) -> FlushFault {
+        FlushFault::Refused(refusal)
+    }
 }

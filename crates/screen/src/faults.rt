@@ -2,7 +2,8 @@
 ghost use Rattle.std.specs.Prelude.{◌≡◌};
 ghost use Rattle.screen.specs.Faults.{fault_number};
 
-use crate::answers::FlushFault;
+use crate::answers::{FlushFault, LeftOver};
+use std::error::Error;
 use std::fmt;
 
 impl FlushFault {
@@ -20,10 +21,8 @@ impl fmt::Display for FlushFault {
     fn fmt<W: fmt::Write>(&self, f: &mut fmt::Formatter<W>) -> fmt::Result {
         match *self {
             FlushFault::Refused(refusal) => write!(f, "{refusal}"),
-            FlushFault::LeftOver(left) => {
+            FlushFault::LeftOver(LeftOver { count, due, .. }) => {
                 let number = self.number();
-                let count = left.count;
-                let due = left.due;
                 write!(
                     f,
                     "{number}: something is left to send, {count} sent, {due} bytes due"
@@ -32,3 +31,5 @@ impl fmt::Display for FlushFault {
         }
     }
 }
+
+impl Error for FlushFault {}

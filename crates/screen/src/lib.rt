@@ -4,6 +4,7 @@
 #![tactic(auto)]
 
 mod answers;
+mod blocks;
 mod faults;
 mod first;
 #[cfg(test)]
@@ -16,6 +17,7 @@ mod performs;
 mod screens;
 mod scripts;
 mod sends;
+mod slots;
 mod sweeps;
 #[cfg(test)]
 mod tests;

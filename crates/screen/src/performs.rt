@@ -1,5 +1,6 @@
 // Performing a script: each call in its turn, a narrowed drawing under the guard that narrows the pen.
-ghost use Rattle.std.specs.Prelude.{◌≡◌, ◌+◌, ◌<◌, ◌≤◌, List, [], ◌∷◌, ◌++◌, length, IfOk, IfErr, vec_len, vec_capacity, slice_index_or};
+ghost use Rattle.std.specs.Prelude.{◌≡◌, ◌+◌, ◌<◌, ◌≤◌, List, [], ◌∷◌, ◌++◌, length};
+ghost use Rattle.std.specs.Prelude.{IfOk, IfErr, vec_len, vec_capacity, slice_index_or};
 ghost use Rattle.drawing.specs.Pens.{PenMeaning};
 ghost use Rattle.screen.specs.declared.scripts.Call.TheVariants.{End};
 ghost use Rattle.screen.specs.Scripts.{world, Single, EndNoted, Reached, Performed};

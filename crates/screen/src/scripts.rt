@@ -3,7 +3,7 @@ use crate::answers::FlushFault;
 use refusal::Refusal;
 
 // A call with its arguments; P is a kind of picture.
-#[derive(Drop)]
+#[derive(PartialEq, Eq, Debug, Drop)]
 pub enum Call<P> {
     Ink(u8),
     Dot(i32, i32),
@@ -17,7 +17,7 @@ pub enum Call<P> {
 }
 
 // What a call of a script answered.
-#[derive(Clone, Copy)]
+#[derive(Clone, Copy, PartialEq, Eq, Debug)]
 pub enum Answer {
     // of ink, dot, bar, place and narrow: accepted, or why not
     Judged(Result<(), Refusal>),

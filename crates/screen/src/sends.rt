@@ -1,42 +1,30 @@
-// Many transfers over a link, with a slot that has enough left for them.
-ghost use Rattle.std.specs.Prelude.{◌≡◌, map, length};
-ghost use Rattle.ssd1329.specs.declared.transfer.Transfer.TheVariants.{Command, Data};
-ghost use Rattle.marks.specs.Sending.{Enough, sent_all};
-ghost use Rattle.screen.specs.Transfers.{as_transfer};
+// Transfers in a slot that has enough left for them.
+ghost use Rattle.std.specs.Prelude.{◌≡◌, ℕ, ◌<◌, ◌≤◌, [], ◌∷◌, map, length};
+ghost use Rattle.screen.specs.Slots.{Sends};
 
+use crate::slots::Slot;
 use link::Link;
 use ssd1329::Transfer;
 
-fn transfer(as_data: bool, byte: u8) -> Transfer
-    ensures { result ≡ as_transfer as_data byte }
-{
-    if as_data {
-        Transfer::Data(byte)
-    } else {
-        Transfer::Command(byte)
+impl<L: Link> Slot<'_, L> {
+    // Sends one transfer.
+    pub(crate) fn send(&mut self, transfer: Transfer)
+        requires { 0 < self.old.left }
+        ensures { Sends L.Link self.old (transfer ∷ []) self.new }
+    {
+        let _ = self.link.send(transfer);
+        self.left -= 1;
     }
-}
 
-// Sends each byte, as data or as a command.
-fn send_bytes<L: Link>(link: &mut L, bytes: &[u8], as_data: bool)
-    requires { Enough (L.means link.old).slot (length bytes.now) }
-    ensures { L.means link.new ≡ sent_all (L.means link.old) (map (as_transfer as_data) bytes.now) }
-{
-    for b in bytes {
-        let _ = link.send(transfer(as_data, *b));
+    // Sends each byte, as the transfer that `of` makes of it.
+    pub(crate) fn send_each<F: Fn(u8) -> Transfer>(&mut self, bytes: &[u8], of: F)
+        requires callable { F.IsAlwaysCallable of }
+        requires fits { length bytes.now ≤ self.old.left }
+        ensures { (transfer : ℕ → Transfer) → ((b : ℕ) (t : Transfer) → F.post of b t → t ≡ transfer b)
+            → Sends L.Link self.old (map transfer bytes.now) self.new }
+    {
+        for byte in bytes {
+            self.send(of(*byte));
+        }
     }
-}
-
-pub(crate) fn send_data<L: Link>(link: &mut L, bytes: &[u8])
-    requires { Enough (L.means link.old).slot (length bytes.now) }
-    ensures { L.means link.new ≡ sent_all (L.means link.old) (map Data bytes.now) }
-{
-    send_bytes(link, bytes, true);
-}
-
-pub(crate) fn send_commands<L: Link>(link: &mut L, bytes: &[u8])
-    requires { Enough (L.means link.old).slot (length bytes.now) }
-    ensures { L.means link.new ≡ sent_all (L.means link.old) (map Command bytes.now) }
-{
-    send_bytes(link, bytes, false);
 }

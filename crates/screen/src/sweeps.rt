@@ -1,12 +1,16 @@
 // Sending due bytes as blocks.
-ghost use Rattle.std.specs.Prelude.{◌≡◌, ℕ, ◌+◌, ◌-◌, ◌*◌, ◌/◌, ◌^◌, ◌<◌, ◌≤◌, map, length, slice_index};
+ghost use Rattle.std.specs.Prelude.{◌≡◌, ℕ, ◌+◌, ◌-◌, ◌*◌, ◌/◌, ◌^◌, ◌<◌, ◌≤◌, length, slice_index};
 ghost use Rattle.marks.specs.Marks.{First};
-ghost use Rattle.marks.specs.Blocks.{block, lines_of, words, bytes_due, Shaped, Part, Clears};
-ghost use Rattle.marks.specs.Sending.{Chosen, EndsThere, Enough, InOneBlock, sent_all, Swept};
+ghost use Rattle.marks.specs.Blocks.{area, parts, words, bytes_due, Part, Clears};
+ghost use Rattle.marks.specs.Sending.{Chosen, EndsThere, InOneBlock, Swept};
+ghost use Rattle.screen.specs.Slots.{Sends};
 
-use crate::sends::{send_commands, send_data};
+use crate::blocks::Block;
+use crate::slots::Slot;
 use link::Link;
 use marks::{Run, cleared, due_bytes, first_run};
+use ssd1329::Transfer;
+use ssd1329::commands::{SET_COLUMNS, SET_LINES};
 
 // How many lines from y on, at most `most`, have that first run, down to the first that does not. Line y itself is not looked at.
 fn height_of(due: &[u64; 128], y: u8, run: Run, most: u32) -> u8
@@ -15,84 +19,84 @@ fn height_of(due: &[u64; 128], y: u8, run: Run, most: u32) -> u8
         × ((k : ℕ) → 0 < k → k < result → First (slice_index due.now (y + k)) run.start run.len) }
     ensures ends { EndsThere due.now y run.start run.len most result }
 {
-    let mut h = 1u8;
-    while y + h < 128 && (h as u32) < most {
-        let Some(next) = first_run(due[(y + h) as usize]) else {
-            return h;
-        };
-        if next.start != run.start || next.len != run.len {
-            return h;
-        }
-        h += 1;
-    }
-    h
+    let below = &due[y as usize + 1..];
+    let most = below.len().min(most as usize - 1);
+    let alike = below[..most]
+        .iter()
+        .position(|w| first_run(*w) != Some(run))
+        .unwrap_or(most);
+    1 + alike as u8
 }
 
-// The block to send at line y, by the first run there: how wide and how tall it is, with `left` transfers left.
-fn choose(due: &[u64; 128], y: u8, run: Run, left: u32) -> (u32, u8)
+// The block to send at line y, by the first run there, with `left` transfers left.
+fn choose(due: &[u64; 128], y: u8, run: Run, left: u32) -> Block
     requires { (y < 128) × ((8 ≤ left) × (First (slice_index due.now y) run.start run.len)) }
-    ensures chosen { Chosen due.now left y run.start run.len result.0 result.1 }
-    ensures ends { EndsThere due.now y run.start result.0 ((left - 7) / result.0) result.1 }
+    ensures place { result.line ≡ y }
+    ensures chosen { Chosen due.now left y result.from run.len result.size result.height }
+    ensures ends { EndsThere due.now y result.from result.size ((left - 7) / result.size) result.height }
 {
-    let m = run.len.min(left - 7);
+    let size = run.len.min(left - 7);
     let narrower = Run {
         start: run.start,
-        len: m,
+        len: size,
     };
-    (m, height_of(due, y, narrower, (left - 7) / m))
-}
-
-// Sends the window of the m columns from a on of the h lines from y on, and the bytes that stand there.
-fn send_block<L: Link>(
-    link: &mut L,
-    canvas: &[u8; 8192],
-    due: &mut [u64; 128],
-    y: u8,
-    a: u8,
-    m: u8,
-    h: u8,
-)
-    requires grant { Enough (L.means link.old).slot (6 + m * h) }
-    requires shape { Shaped (block y a m h) }
-    requires marked { (k : ℕ) → k < h → Part (slice_index due.old (y + k)) a m }
-    ensures sends { L.means link.new ≡ sent_all (L.means link.old) (words canvas.now (block y a m h)) }
-    ensures clears { Clears due.old (lines_of y a m h) due.new }
-    ensures long { length (words canvas.now (block y a m h)) ≡ 6 + m * h }
-{
-    send_commands(link, &[0x15, a, a + m - 1, 0x75, y, y + h - 1]);
-    for i in 0..h {
-        let line = (y + i) as usize;
-        let from = line * 64 + a as usize;
-        send_data(link, &canvas[from..from + m as usize]);
-        due[line] = cleared(due[line], a as u32, m as u32);
+    Block {
+        line: y,
+        from: run.start as u8,
+        size: size as u8,
+        height: height_of(due, y, narrower, (left - 7) / size),
     }
 }
 
-// Sends due bytes while the grant lasts, and keeps one transfer: what is left of the grant.
-pub(crate) fn sweep<L: Link>(
-    link: &mut L,
-    canvas: &[u8; 8192],
-    due: &mut [u64; 128],
-    grant: u32,
-) -> u32
-    requires { (Enough (L.means link.old).slot grant) × (0 < grant) }
-    ensures swept { Swept (L.means link.old) canvas.now due.old grant (L.means link.new) due.new result }
-    ensures boxed { InOneBlock due.old grant due.new result }
-    ensures wide { length canvas.now ≡ 8192 }
-{
-    let mut left = grant;
-    let mut y = 0u8;
-    while y < 128 && left >= 8 {
-        match first_run(due[y as usize]) {
-            None => y += 1,
-            Some(run) => {
-                let (m, h) = choose(due, y, run, left);
-                send_block(link, canvas, due, y, run.start as u8, m as u8, h);
-                left -= 6 + m * h as u32;
+impl<L: Link> Slot<'_, L> {
+    // Sends the window of a block, and the bytes that stand there.
+    fn send_block(&mut self, canvas: &[u8; 8192], due: &mut [u64; 128], block: &Block)
+        requires grant { 6 + area block.now ≤ self.old.left }
+        requires marked { (k : ℕ) → k < block.now.height → Part (slice_index due.old (block.now.line + k)) block.now.from block.now.size }
+        ensures sends { Sends L.Link self.old (words canvas.now block.now) self.new }
+        ensures clears { Clears due.old (parts block.now) due.new }
+        ensures long { length (words canvas.now block.now) ≡ 6 + area block.now }
+    {
+        let last_column = block.from + block.size - 1;
+        let last_line = block.line + block.height - 1;
+        self.send_each(
+            &[
+                SET_COLUMNS,
+                block.from,
+                last_column,
+                SET_LINES,
+                block.line,
+                last_line,
+            ],
+            Transfer::Command,
+        );
+        // By index: of marks that an iterator lends for writing a proof knows nothing afterwards.
+        for line in block.line..block.line + block.height {
+            let from = line as usize * 64 + block.from as usize;
+            self.send_each(&canvas[from..from + block.size as usize], Transfer::Data);
+            due[line as usize] = cleared(due[line as usize], block.from as u32, block.size as u32);
+        }
+    }
+
+    // Sends due bytes while there is room for them, and keeps one transfer.
+    // Cells are lent for reading and marks for writing, so they do not come as one.
+    pub(crate) fn sweep(&mut self, canvas: &[u8; 8192], due: &mut [u64; 128])
+        requires { 0 < self.old.left }
+        ensures same_link { self.new.link.ghost_name ≡ self.old.link.ghost_name }
+        ensures swept { Swept (L.means self.old.link.now) canvas.now due.old self.old.left (L.means self.new.link.now) due.new self.new.left }
+        ensures boxed { InOneBlock due.old self.old.left due.new self.new.left }
+        ensures wide { length canvas.now ≡ 8192 }
+    {
+        for y in 0..128u8 {
+            while let Some(run) = first_run(due[y as usize]) {
+                if self.left < 8 {
+                    return;
+                }
+                let block = choose(due, y, run, self.left);
+                self.send_block(canvas, due, &block);
             }
         }
     }
-    left
 }
 
 // How many bytes are due.
@@ -100,9 +104,5 @@ pub(crate) fn all_due(due: &[u64; 128]) -> u32
     ensures sum { result ≡ bytes_due due.now }
     ensures fit { (k : ℕ) → k < length due.now → slice_index due.now k < 2 ^ 64 }
 {
-    let mut all = 0u32;
-    for y in 0..128usize {
-        all += due_bytes(due[y]);
-    }
-    all
+    due.iter().map(|w| due_bytes(*w)).sum()
 }

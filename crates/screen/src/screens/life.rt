@@ -41,13 +41,6 @@ impl<L: Link> Screen<L> {
     pub fn into_link(self) -> L
         ensures { result ≡ self.link }
     {
-        let Screen {
-            wiring: _,
-            link,
-            canvas: _,
-            lit: _,
-            owed: _,
-        } = self;
-        link
+        self.link
     }
 }

@@ -1,6 +1,6 @@
-use Rattle.std.proofs.Common.{arith}
+use Rattle.std.proofs.Common.{rules}
 use Rattle.marks.proofs.Zero.{none_due}
 use Rattle.screen.proofs.flushes.first_due.Goals as goal
 
-pub returns : goal.returns
-returns c = none_due c.args.due.now (λ k l. c.loop-y.invariant k (omega arith))
+pub returns-in_err-line : goal.returns-in_err-line
+returns-in_err-line c = search (rules, none_due)

@@ -1,10 +1,6 @@
 -- The lines of a script, one after the other.
-use Rattle.std.proofs.Common.{◌≡◌, ℕ, zero, suc, ◌+◌, ◌<◌, List, [], ◌∷◌, ◌++◌, map, length, get_or, take, ℤ, sym, refl, ap, ◌∙◌, subst, append_assoc, append-nil, arith, take-add}
+use Rattle.std.proofs.Common.{◌≡◌, ℕ, zero, suc, List, [], ◌∷◌, ◌++◌, length, map, sym, refl, ap, ◌∙◌, subst, append_assoc, append-nil, arith}
 use mathlib.Core.List.{map-append}
-use Rattle.std.proofs.lemmas.List.Edits.{length-between}
-use Rattle.std.proofs.lemmas.List.{take_more}
-use Rattle.std.proofs.lemmas.Slice.{between_to_end}
-use Rattle.std.specs.List.{between}
 use Rattle.picture.specs.declared.pictures.Picture.{Ghosts as PictureGhosts}
 use Rattle.link.specs.declared.links.Link.{Ghosts as LinkGhosts}
 use Rattle.ssd1329.specs.Meaning.{wires}
@@ -13,11 +9,10 @@ use Rattle.drawing.specs.declared.pen.Pen.{Pen}
 use Rattle.drawing.specs.Pens.{PenMeaning}
 use Rattle.screen.specs.declared.screens.Screen.{Screen}
 use Rattle.screen.specs.declared.scripts.Call.{Call}
-use Rattle.screen.specs.declared.scripts.Call.TheVariants.{Ink, Dot, Bar, Place, Narrow, End, Flush}
 use Rattle.screen.specs.declared.scripts.Answer.{Answer}
 use Rattle.screen.specs.Lives.{World, Drew, ended}
 use Rattle.screen.specs.Screens.{OnlyCanvas}
-use Rattle.screen.specs.Scripts.{meant, Line, made, line_call, line_answer, Makes, Goes, closing, world, Ran, Reached, Nests}
+use Rattle.screen.specs.Scripts.{meant, Line, made, line_call, line_answer, Makes, Goes, closing, world, Ran, SoFar}
 
 -- a call that changes only the canvas is a drawing call
 pub drew : {L : Type 0} (k : LinkGhosts L) (s t : Screen L) (p : Pen) (stack : List PenMeaning) (Changes : Canvas → Canvas → Type 0)
@@ -76,45 +71,30 @@ module _ {P : Type 0} (k : PictureGhosts P) (w : World) where
         (goes_join w u v (f.lines ++ closing n) (made ended ∷ []) f.goes (goes_one u v (made ended) m));
   }
 
-  module _ (u : World) (script : List (Call P)) (b m : List Answer) (i : ℕ) where
-    -- before the end of the script no narrowing has been left open; nothing has changed since
-    pub so_far : (t : World) → Reached k w script b m t i → i < length script → u ≡ t → Ran k w (take i script) b m 0 u
-    so_far t r h same = subst (λ v. Ran k w (take i script) b m 0 v) (sym same) (subst (λ n. Ran k w (take i script) b m n t) (r.over h) r.ran)
+  -- no call yet, and each of the script is left
+  pub so_far_none : (script : List (Call P)) (b a : List Answer) → a ≡ b → SoFar k w script b a w script
+  so_far_none script b a e = record { made_now = []; parts = refl; ran = subst (λ x. Ran k w [] b x 0 w) (sym e) (ran_none b) }
 
-    module _ (so : Ran k w (take i script) b m 0 u) where
-      -- one call more
-      pub ran_more : (v : World) (a : List Answer) (c : Call P) (l : Line) → i < length script → c ≡ get_or script i c → line_call l ≡ meant k c → a ≡ m ++ line_answer l ∷ [] → Makes u l v
-          → Ran k w (take (i + 1) script) b a 0 v
-      ran_more v a c l h is asks tells does =
-          subst (λ s. Ran k w s b a 0 v) (ap (λ x. take i script ++ x ∷ []) is ∙ sym (take_more script i c h))
-          (ran_join u v (take i script) (c ∷ []) b m a 0 so
-          (record { lines = l ∷ []; calls = ap (λ x. x ∷ []) asks; answers = tells; goes = goes_one u v l does }))
+  module _ (u : World) (script left : List (Call P)) (b m : List Answer) (so : SoFar k w script b m u left) where
+    -- calls of those that are left, and then more
+    pub so_far_then : (v : World) (a : List Answer) (rest : List (Call P)) → SoFar k u left m a v rest → SoFar k w script b a v rest
+    so_far_then v a rest more = record {
+      made_now = so.made_now ++ more.made_now;
+      parts = so.parts ∙ ap (λ x. so.made_now ++ x) more.parts ∙ sym (append_assoc so.made_now more.made_now rest);
+      ran = ran_join u v so.made_now more.made_now b m a 0 so.ran more.ran;
+    }
 
-      -- all calls of a narrowed drawing more
-      pub ran_inner : (v : World) (a : List Answer) (j : ℕ) (r : Reached k u (between i (length script) script) m a v j) → Ran k w (take (i + j) script) b a r.unended v
-      ran_inner v a j r =
-          subst (λ s. Ran k w s b a r.unended v) (ap (λ s. take i script ++ take j s) (between_to_end script i (length script) (omega arith)) ∙ sym (take-add i j script))
-          (ran_join u v (take i script) (take j (between i (length script) script)) b m a r.unended so r.ran)
+    -- one call more
+    pub so_far_more : (v : World) (a : List Answer) (c : Call P) (rest : List (Call P)) (l : Line) → left ≡ c ∷ rest → line_call l ≡ meant k c → a ≡ m ++ line_answer l ∷ [] → Makes u l v
+        → SoFar k w script b a v rest
+    so_far_more v a c rest l is asks tells does =
+        so_far_then v a rest (record { made_now = c ∷ []; parts = is; ran = record { lines = l ∷ []; calls = ap (λ x. x ∷ []) asks; answers = tells; goes = goes_one u v l does } })
 
-  -- calls were reached, and from there calls of the rest of the script
-  pub reached_inner : (u v : World) (script : List (Call P)) (b m a : List Answer) (i j : ℕ) → i < length script → Reached k w script b m u i
-      → Reached k u (between i (length script) script) m a v j → Reached k w script b a v (i + j)
-  reached_inner u v script b m a i j h so r = record {
-    unended = r.unended;
-    ran = ran_inner u script b m i (so_far u script b m i u so h refl) v a j r;
-    over = λ more. let size = length-between script i (length script) (omega arith) in r.over (omega arith);
-  }
+    -- all that are left
+    pub so_far_all : (v : World) (a : List Answer) (n : ℕ) → Ran k u left m a n v → Ran k w script b a n v
+    so_far_all v a n ran = subst (λ s. Ran k w s b a n v) (sym so.parts) (ran_join u v so.made_now left b m a n so.ran ran)
 
--- what was run without an end that is missing
-pub reached : {P : Type 0} (k : PictureGhosts P) (w v : World) (script : List (Call P)) (b a : List Answer) (i : ℕ) → Ran k w (take i script) b a 0 v → Reached k w script b a v i
-reached k w v script b a i f = record { unended = 0; ran = f; over = λ h. refl }
-
--- what nests and begins no narrowing is an end
-pub only_end : {P : Type 0} (c : Call P) → Nests c → ((x y : ℤ) (w h : ℕ) → c ≡ Narrow x y w h → ⊥) → c ≡ End
-only_end (Ink g) n no_narrow = absurd n
-only_end (Dot x y) n no_narrow = absurd n
-only_end (Bar x y w h) n no_narrow = absurd n
-only_end (Place p x y) n no_narrow = absurd n
-only_end (Narrow x y w h) n no_narrow = absurd (no_narrow x y w h refl)
-only_end End n no_narrow = refl
-only_end (Flush m) n no_narrow = absurd n
+-- none is left
+pub so_far_end : {P : Type 0} (k : PictureGhosts P) (w u : World) (script left : List (Call P)) (b m : List Answer) → SoFar k w script b m u left → length left ≡ 0 → Ran k w script b m 0 u
+so_far_end k w u script [] b m so e = so_far_all k w u script [] b m so u m 0 (ran_none k u m)
+so_far_end k w u script (c ∷ left) b m so e = absurd (omega arith)

@@ -1,13 +1,12 @@
 -- A script goes on with a life, and keeps it faithful.
-use Rattle.std.proofs.Common.{ℕ, ◌≤◌, List, [], ◌∷◌, ◌++◌, length, Ok, Err, sym, ap, subst}
-use Rattle.std.proofs.lemmas.List.{take_all}
+use Rattle.std.proofs.Common.{ℕ, List, [], ◌∷◌, ◌++◌, Ok, Err, sym, ap, subst}
 use Rattle.picture.specs.declared.pictures.Picture.{Ghosts as PictureGhosts}
 use Rattle.drawing.specs.declared.canvas.Canvas.{Canvas}
 use Rattle.drawing.specs.Pens.{PenMeaning}
 use Rattle.screen.specs.declared.scripts.Call.{Call}
 use Rattle.screen.specs.declared.scripts.Answer.{Answer}
 use Rattle.screen.specs.Lives.{World, Event, inked, dotted, barred, placed, narrowed_to, ended, flushed, Drew, EndStep, Follows, Life}
-use Rattle.screen.specs.Scripts.{Line, made, idle, Goes, closing, Ran, Reached, lived, FaithfulLife, inside, Performed}
+use Rattle.screen.specs.Scripts.{Line, made, idle, Goes, closing, Ran, lived, FaithfulLife, inside, Performed}
 use Rattle.screen.proofs.Faith.{every_life_is_faithful}
 
 module _ (outer : List PenMeaning) where
@@ -53,13 +52,11 @@ unfolding Life FaithfulLife
 faithful_steps [] w life = (life, every_life_is_faithful [] w life)
 faithful_steps (e ∷ es) v (w, life, does) = (w, faithful_steps es w life, does, every_life_is_faithful (e ∷ es) v (w, life, does))
 
--- a script that is run to its end is performed
-pub performed : {P : Type 0} (k : PictureGhosts P) (w v : World) (script : List (Call P)) (answers : List Answer) (i : ℕ) → Reached k w script [] answers v i → length script ≤ i
+-- a script that ran is performed
+pub performed : {P : Type 0} (k : PictureGhosts P) (w v : World) (script : List (Call P)) (answers : List Answer) (unended : ℕ) → Ran k w script [] answers unended v
     → Performed k w script answers v
-performed k w v script answers i r all =
-    let whole : Ran k w script [] answers r.unended v = subst (λ s. Ran k w s [] answers r.unended v) (take_all i script all) r.ran in
-    record {
-      unended = r.unended;
-      ran = whole;
-      faithful = λ outer past life. faithful_steps _ _ (life_on outer (whole.lines ++ closing r.unended) w v past whole.goes life);
-    }
+performed k w v script answers unended ran = record {
+  unended = unended;
+  ran = ran;
+  faithful = λ outer past life. faithful_steps _ _ (life_on outer (ran.lines ++ closing unended) w v past ran.goes life);
+}

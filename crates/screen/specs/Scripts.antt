@@ -1,5 +1,5 @@
 -- Scripts: the life that a script of calls is, with its answers. Assumes nothing.
-use Rattle.std.specs.Prelude.{◌≡◌, ℕ, ◌+◌, ◌<◌, ◌≤◌, ◌⊎◌, List, [], ◌∷◌, ◌++◌, map, length, take, replicate, Some, None, Option}
+use Rattle.std.specs.Prelude.{◌≡◌, ℕ, Bool, true, false, List, [], ◌∷◌, ◌++◌, map, replicate}
 use Rattle.picture.specs.declared.pictures.Picture.{Ghosts as PictureGhosts}
 use Rattle.link.specs.declared.links.Link.{Ghosts as LinkGhosts}
 use Rattle.drawing.specs.declared.pen.Pen.{Pen}
@@ -72,37 +72,16 @@ pub record Ran {P : Type 0} (k : PictureGhosts P) (w : World) (script : List (Ca
   pub answers : after ≡ before ++ map line_answer lines
   pub goes : Goes w (lines ++ closing unended) v
 
--- the first calls of a script, up to some place; narrowings that are open end at the end of the script
-pub record Reached {P : Type 0} (k : PictureGhosts P) (w : World) (script : List (Call P)) (before after : List Answer) (v : World) (upto : ℕ) : Type 0 where
-  pub unended : ℕ
-  pub ran : Ran k w (take upto script) before after unended v
-  pub over : upto < length script → unended ≡ 0
+-- the first calls of a script were made, down to those that are left, and each narrowing that they began has ended
+pub record SoFar {P : Type 0} (k : PictureGhosts P) (w : World) (script : List (Call P)) (before after : List Answer) (v : World) (left : List (Call P)) : Type 0 where
+  pub made_now : List (Call P)
+  pub parts : script ≡ made_now ++ left
+  pub ran : Ran k w made_now before after 0 v
 
--- the end of a narrowed drawing is answered where the script has it, after the calls that are done
-abbrev pub EndNoted : ℕ → ℕ → List Answer → ℕ → List Answer → Type 0
-EndNoted done all before then after = ((done < all) × (then ≡ done + 1) × (after ≡ before ++ Ended ∷ [])) ⊎ ((all ≤ done) × (then ≡ done) × (after ≡ before))
-
--- one call that is neither a narrowing nor an end
-pub record Once {P : Type 0} (k : PictureGhosts P) (c : Call P) (w : World) (a : Answer) (v : World) : Type 0 where
-  pub event : Event
-  pub asked : call event ≡ meant k c
-  pub answered : told event ≡ a
-  pub follows : Follows w event v
-
--- a narrowing or an end
-abbrev pub Nests : {P : Type 0} → Call P → Type 0
-Nests (Ink g) = ⊥
-Nests (Dot x y) = ⊥
-Nests (Bar x y w h) = ⊥
-Nests (Place p x y) = ⊥
-Nests (Narrow x y w h) = Unit {0}
-Nests End = Unit {0}
-Nests (Flush n) = ⊥
-
--- such a call is not made
-abbrev pub Single : {P : Type 0} → PictureGhosts P → Call P → World → Option Answer → World → Type 0
-Single k c w (Some a) v = Once k c w a v
-Single k c w None v = Nests c × (v ≡ w)
+-- down to an end that matches none of their narrowings, with the calls that are left behind it; or all, and narrowings that they left open have ended
+abbrev pub Reached : {P : Type 0} → PictureGhosts P → World → List (Call P) → List Answer → List Answer → World → Bool → List (Call P) → Type 0
+Reached k w script before after v true left = SoFar k w script before after v (End ∷ left)
+Reached k w script before after v false left = (unended : ℕ) × Ran k w script before after unended v
 
 -- the events of a life that goes on with these lines, the latest first
 abbrev pub lived : List Line → List Event → List Event

@@ -1,9 +1,7 @@
 // Performing a script: each call in its turn, a narrowed drawing under the guard that narrows the pen.
-ghost use Rattle.std.specs.Prelude.{◌≡◌, ◌+◌, ◌<◌, ◌≤◌, List, [], ◌∷◌, ◌++◌, length};
-ghost use Rattle.std.specs.Prelude.{IfOk, IfErr, vec_len, vec_capacity, slice_index_or};
+ghost use Rattle.std.specs.Prelude.{◌≡◌, ◌+◌, ◌<◌, ◌≤◌, List, [], ◌∷◌, ◌++◌, length, if◌then◌else◌, IfOk, IfErr, vec_len, vec_capacity};
 ghost use Rattle.drawing.specs.Pens.{PenMeaning};
-ghost use Rattle.screen.specs.declared.scripts.Call.TheVariants.{End};
-ghost use Rattle.screen.specs.Scripts.{world, Single, EndNoted, Reached, Performed};
+ghost use Rattle.screen.specs.Scripts.{world, Reached, Performed};
 
 use crate::screens::Screen;
 use crate::scripts::{Answer, Call};
@@ -11,28 +9,7 @@ use drawing::{Pen, Rectangle};
 use link::Link;
 use picture::Picture;
 use std::alloc::{AllocError, Global};
-
-// A call that is neither a narrowing nor an end, and what it answers.
-fn single<L: Link, P: Picture>(
-    screen: &mut Screen<L>,
-    pen: &mut Pen,
-    call: &Call<P>,
-) -> Option<Answer>
-    ensures { (stack : List PenMeaning) →
-        Single P.Picture call.now
-        (world L.Link screen.old pen.old stack) result
-        (world L.Link screen.new pen.new stack) }
-{
-    match call {
-        Call::Ink(gray) => Some(Answer::Judged(pen.ink(*gray))),
-        Call::Dot(x, y) => Some(Answer::Judged(screen.dot(pen, *x, *y))),
-        Call::Bar(x, y, w, h) => Some(Answer::Judged(screen.bar(pen, *x, *y, *w, *h))),
-        Call::Place(picture, x, y) => Some(Answer::Judged(screen.place(pen, picture, *x, *y))),
-        Call::Flush(n) => Some(Answer::Flushed(screen.flush(*n))),
-        Call::Narrow(_, _, _, _) => None,
-        Call::End => None,
-    }
-}
+use std::slice;
 
 // One answer more, where there is room for it.
 fn note(answers: &mut Vec<Answer>, answer: Answer)
@@ -44,64 +21,50 @@ fn note(answers: &mut Vec<Answer>, answer: Answer)
     let _ = answers.push(answer);
 }
 
-// Answers the end of a narrowed drawing, if the script has it after the calls that are done: how many are done then.
-fn note_end(answers: &mut Vec<Answer>, done: usize, all: usize) -> usize
-    requires { (done ≤ all) × (vec_len answers.old + all ≤ vec_capacity answers.old + done) }
-    ensures noted { EndNoted done all answers.old.items result answers.new.items }
-    ensures room { vec_len answers.new + all ≤ vec_capacity answers.new + result }
-{
-    if done < all {
-        note(answers, Answer::Ended);
-        done + 1
-    } else {
-        done
-    }
-}
-
-// Makes the calls up to an end that none of their narrowings matches, or up to the script's end: how many.
+// Makes the calls up to an end that none of their narrowings matches, or all: whether there was such an end.
 fn until_end<L: Link, P: Picture>(
     screen: &mut Screen<L>,
     pen: &mut Pen,
-    script: &[Call<P>],
+    calls: &mut slice::Iter<'_, Call<P>>,
     answers: &mut Vec<Answer>,
-) -> usize
-    requires { vec_len answers.old + length script.now ≤ vec_capacity answers.old }
-    ensures within { result ≤ length script.now }
+) -> bool
+    requires { vec_len answers.old + length calls.old.rest.now ≤ vec_capacity answers.old }
     ensures ran { (stack : List PenMeaning) →
         Reached P.Picture
-        (world L.Link screen.old pen.old stack) script.now
+        (world L.Link screen.old pen.old stack) calls.old.rest.now
         answers.old.items answers.new.items
-        (world L.Link screen.new pen.new stack) result }
-    ensures stops { result < length script.now → slice_index_or script.now result End ≡ End }
-    ensures room { vec_len answers.new + length script.now ≤ vec_capacity answers.new + result }
+        (world L.Link screen.new pen.new stack) result calls.new.rest.now }
+    ensures fewer { length calls.new.rest.now + (if result then 1 else 0) ≤ length calls.old.rest.now }
+    ensures room { vec_len answers.new + (length calls.new.rest.now + (if result then 1 else 0)) ≤ vec_capacity answers.new }
 {
-    let mut done = 0;
-    while done < script.len() {
-        let call = &script[done];
-        if let Some(answer) = single(screen, pen, call) {
-            note(answers, answer);
-            done += 1;
-        } else {
-            let Call::Narrow(x, y, w, h) = call else {
-                return done;
-            };
-            match Rectangle::new(*x, *y, *w, *h) {
-                Err(refusal) => {
-                    note(answers, Answer::Judged(Err(refusal)));
-                    done += 1;
-                }
+    while let Some(call) = calls.next() {
+        match call {
+            Call::Ink(gray) => note(answers, Answer::Judged(pen.ink(*gray))),
+            Call::Dot(x, y) => note(answers, Answer::Judged(screen.dot(pen, *x, *y))),
+            Call::Bar(x, y, w, h) => {
+                note(answers, Answer::Judged(screen.bar(pen, *x, *y, *w, *h)));
+            }
+            Call::Place(picture, x, y) => {
+                note(answers, Answer::Judged(screen.place(pen, picture, *x, *y)));
+            }
+            Call::Flush(n) => note(answers, Answer::Flushed(screen.flush(*n))),
+            Call::Narrow(x, y, w, h) => match Rectangle::new(*x, *y, *w, *h) {
+                Err(refusal) => note(answers, Answer::Judged(Err(refusal))),
                 Ok(rectangle) => {
                     note(answers, Answer::Judged(Ok(())));
-                    done += 1;
                     let narrowed = pen.narrow(rectangle);
-                    done += until_end(screen, narrowed.pen, &script[done..], answers);
+                    let ended = until_end(screen, narrowed.pen, calls, answers);
                     narrowed.end();
-                    done = note_end(answers, done, script.len());
+                    if !ended {
+                        return false;
+                    }
+                    note(answers, Answer::Ended);
                 }
-            }
+            },
+            Call::End => return true,
         }
     }
-    done
+    false
 }
 
 // Makes each call of the script, and gives the answers. Narrowings that the script leaves open end with it.
@@ -121,13 +84,9 @@ pub fn perform<L: Link, P: Picture>(
         (screen.new ≡ screen.old) × (pen.new ≡ pen.old)) }
 {
     let mut answers = Vec::with_capacity(heap, script.len())?;
-    let mut done = 0;
-    while done < script.len() {
-        done += until_end(screen, pen, &script[done..], &mut answers);
-        if done < script.len() {
-            note(&mut answers, Answer::NoneOpen);
-            done += 1;
-        }
+    let mut calls = script.iter();
+    while until_end(screen, pen, &mut calls, &mut answers) {
+        note(&mut answers, Answer::NoneOpen);
     }
     Ok(answers)
 }

@@ -1,17 +1,17 @@
 -- One transfer more over a link, and what is left of its slot.
-use Rattle.std.proofs.Common.{◌≡◌, ℕ, ◌+◌, ◌-◌, ◌≤◌, eqb, List, [], ◌∷◌, ◌++◌, length, Some, None, Ok, Option, Result, sym, refl, ap, ◌∙◌, subst, arith, length-append}
+use Rattle.std.proofs.Common.{◌≡◌, ℕ, ◌+◌, ◌-◌, ◌<◌, eqb, List, [], ◌∷◌, ◌++◌, length, Some, None, Ok, Option, Result, refl, ap, ◌∙◌, arith, length-append}
 use Rattle.std.proofs.lemmas.Bool.{cond-false, ne_eqb}
 use Rattle.refusal.specs.declared.refusals.Refusal.{Refusal}
 use Rattle.ssd1329.specs.declared.transfer.Transfer.{Transfer}
 use Rattle.ssd1329.specs.Chip.{Chip, run}
 use Rattle.listing.specs.Listing.{less}
-use Rattle.link.specs.Links.{LinkMeaning, send_answer, send_after, sent}
-use Rattle.marks.specs.Sending.{Enough, sent_all, less_by}
+use Rattle.link.specs.Links.{LinkMeaning, lefts, send_answer, send_after, sent}
+use Rattle.marks.specs.Sending.{sent_all, less_by}
 use Rattle.marks.proofs.Model.{run_append, run_none, run_last}
 
--- after k transfers one more is taken, if there were enough
-pub answers_ok : (s : Option ℕ) (k : ℕ) → Enough s (k + 1) → send_answer (less_by s k) ≡ Ok tt
-answers_ok None k h = elim h [ ]
+-- after k transfers one more is taken, if there were more
+pub answers_ok : (s : Option ℕ) (k : ℕ) → k < lefts s → send_answer (less_by s k) ≡ Ok tt
+answers_ok None k h = absurd (omega arith)
 answers_ok (Some left) k h = cond-false (eqb (left - k) 0) _ _ (ne_eqb (left - k) 0 (λ e. omega arith))
 
 -- one less, and one more sent
@@ -33,17 +33,12 @@ sent_one m ts t k e =
 
 -- the same by what the send answered and left
 pub sent_more : (m n n' : LinkMeaning) (ts : List Transfer) (t : Transfer) (r : Result (Unit {0}) Refusal)
-    → Enough m.slot (length ts + 1) → n ≡ sent_all m ts → r ≡ send_answer n.slot → n' ≡ send_after n t r
+    → length ts < lefts m.slot → n ≡ sent_all m ts → r ≡ send_answer n.slot → n' ≡ send_after n t r
     → n' ≡ sent_all m (ts ++ t ∷ [])
 sent_more m n n' ts t r enough was answer after =
     let ok : r ≡ Ok tt = answer ∙ ap (λ x. send_answer x.slot) was ∙ answers_ok m.slot (length ts) enough in
     let one : n' ≡ sent (sent_all m ts) t = after ∙ ap (send_after n t) ok ∙ ap (λ x. sent x t) was in
     one ∙ sent_one m ts t (length (ts ++ t ∷ [])) (simp length-append)
-
--- enough for more is enough for less
-pub enough_less : (s : Option ℕ) (j k : ℕ) → j ≤ k → Enough s k → Enough s j
-enough_less None j k h e = elim e [ ]
-enough_less (Some left) j k h e = omega arith
 
 -- nothing sent, nothing changed
 pub sent_none : (m : LinkMeaning) → m ≡ sent_all m []
@@ -58,7 +53,7 @@ sent_none m =
 
 -- one send in a slot with something left
 pub one_sent : (m n : LinkMeaning) (t : Transfer) (r : Result (Unit {0}) Refusal)
-    → Enough m.slot 1 → r ≡ send_answer m.slot → n ≡ send_after m t r → n ≡ sent_all m (t ∷ [])
+    → 0 < lefts m.slot → r ≡ send_answer m.slot → n ≡ send_after m t r → n ≡ sent_all m (t ∷ [])
 one_sent m n t r enough answer after = sent_more m m n [] t r enough (sent_none m) answer after
 
 -- first j, then k
@@ -76,12 +71,3 @@ sent_then m n p a b first second =
     let takens : m.taken + length a + length b ≡ m.taken + (length a + length b) = omega arith in
     let both : sent_all (sent_all m a) b ≡ sent_all m (a ++ b) = cc in
     second ∙ ap (λ x. sent_all x b) first ∙ both
-
--- of k, i are gone: j are left
-enough_sub : (s : Option ℕ) (i j k : ℕ) → Enough s k → i + j ≤ k → Enough (less_by s i) j
-enough_sub None i j k h l = elim h [ ]
-enough_sub (Some left) i j k h l = omega arith
-
--- what is still left after a
-pub enough_then : (m n : LinkMeaning) (a : List Transfer) (j k : ℕ) → n ≡ sent_all m a → Enough m.slot k → length a + j ≤ k → Enough n.slot j
-enough_then m n a j k e h l = subst (λ (x : LinkMeaning). Enough x.slot j) (sym e) (enough_sub m.slot (length a) j k h l)

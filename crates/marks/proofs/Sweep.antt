@@ -5,10 +5,10 @@ use Rattle.std.proofs.lemmas.Bool.{cases_lt}
 use Rattle.link.specs.Links.{LinkMeaning}
 use Rattle.marks.specs.Marks.{First, Cleared}
 use Rattle.marks.specs.Blocks.{Stretch, Block, Shaped, area, Boxed, lines_of, parts, row, bytes, window, words, traffic, Front, Part, Clears, Covers, bytes_due, worth}
-use Rattle.marks.specs.Sending.{Enough, sent_all, Sweeping, InOneBlock, EndsThere, Chosen, Blocking}
+use Rattle.marks.specs.Sending.{sent_all, Sweeping, InOneBlock, EndsThere, Chosen, Blocking}
 use Rattle.marks.proofs.Accounts.{row_length, words_length, clears_bytes, block_falls, cut_falls}
 use Rattle.marks.proofs.Boxes.{box_bytes, chosen_box}
-use Rattle.marks.proofs.Sends.{sent_then, sent_none, enough_then}
+use Rattle.marks.proofs.Sends.{sent_then, sent_none}
 
 -- ---- a line of a block
 
@@ -37,12 +37,6 @@ clears_push ws (t ∷ ss) vs s v (u, k, h, c) l f = (u, k, h, clears_push (set w
 -- no line is sent
 pub blocking_none : (o : LinkMeaning) (canvas ws : List ℕ) (y a m : ℕ) → Blocking o canvas ws y a m o ws 0
 blocking_none o canvas ws y a m = record { sends = sent_none o; clears = refl; ahead = λ u l. refl; long = refl; size = sym (mul-zero m) }
-
--- there is enough for one line more
-pub line_fits : (o n : LinkMeaning) (canvas ws vs : List ℕ) (y a m i h : ℕ) → Blocking o canvas ws y a m n vs i → Enough o.slot (m * h) → i < h → Enough n.slot m
-line_fits o n canvas ws vs y a m i h b enough l =
-    let less : m * suc i ≤ m * h = mul-le-mul_left m l in
-    enough_then o n (bytes canvas (lines_of y a m i)) m (m * h) b.sends enough (omega (arith, b.size, mul-suc m i))
 
 -- a line more: its bytes are sent, its marks are cleared
 pub blocking_more : (o n n' : LinkMeaning) (canvas ws vs : List ℕ) (y a m i v : ℕ) → Blocking o canvas ws y a m n vs i
@@ -99,22 +93,6 @@ sweep_none m canvas ws grant h = record {
   pays = inl (omega arith);
 }
 
--- a line with nothing due is passed
-pub sweep_pass : (o : LinkMeaning) (canvas ws : List ℕ) (grant : ℕ) (n : LinkMeaning) (vs : List ℕ) (left y : ℕ) → Sweeping o canvas ws grant n vs left y → get_or vs y 0 ≡ 0
-    → Sweeping o canvas ws grant n vs left (y + 1)
-sweep_pass o canvas ws grant n vs left y h z = record {
-  blocks = h.blocks;
-  covers = h.covers;
-  sends = h.sends;
-  spent = h.spent;
-  reserve = h.reserve;
-  long = h.long;
-  passed = λ u l. ⊎_elim (λ (i : u < y). h.passed u i) (λ (i : y ≤ u). let e : u ≡ y = omega arith in ap (λ k. get_or vs k 0) e ∙ z) (cases_lt u y);
-  fewer = h.fewer;
-  fell = h.fell;
-  pays = h.pays;
-}
-
 -- nothing is sent yet
 pub box_none : (ws : List ℕ) (grant : ℕ) → InOneBlock ws grant ws grant
 box_none ws grant = λ b box room. inl (refl, refl)
@@ -141,12 +119,6 @@ module _ (vs : List ℕ) (left y a len m h : ℕ) (c : Chosen vs left y a len m 
 
   pub chosen_shaped : Shaped block
   chosen_shaped = record { high = c.high; wide = chosen_wide; within = omega (arith, c.first.within, c.most); below = c.below }
-
-  pub chosen_marked : (k : ℕ) → k < h → Part (get_or vs (y + k) 0) a m
-  chosen_marked k l = ⊎_elim
-      (λ (z : 0 < k). record { len = m; first = c.same k z l; part = omega arith })
-      (λ (z : k ≤ 0). let e : y + k ≡ y = omega arith in rw e (record { len = len; first = c.first; part = omega (arith, c.most) }))
-      (cases_lt 0 k)
 
   module _ (us : List ℕ) (clears : Clears vs (lines_of y a m h) us) where
     -- each byte of the block was due

@@ -11,11 +11,6 @@ abbrev pub less_by : Option ℕ → ℕ → Option ℕ
 less_by None k = None
 less_by (Some left) k = Some (left - k)
 
--- there is a slot, with at least k left
-abbrev pub Enough : Option ℕ → ℕ → Type 0
-Enough None k = ⊥
-Enough (Some left) k = k ≤ left
-
 -- what a link means after all of ts
 abbrev pub sent_all : LinkMeaning → List Transfer → LinkMeaning
 sent_all m ts = record { chip = run m.chip ts; slot = less_by m.slot (length ts); room = m.room - length ts; taken = m.taken + length ts }

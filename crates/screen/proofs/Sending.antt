@@ -1,21 +1,16 @@
 -- Transfers in a slot, one after the other.
-use Rattle.std.proofs.Common.{◌≡◌, ℕ, ◌+◌, ◌*◌, ◌<◌, ◌≤◌, List, [], ◌++◌, map, length, get_or, set, take, drop, Some, None, Option, sym, refl, ◌∙◌, subst, arith, length-append}
+use Rattle.std.proofs.Common.{◌≡◌, ℕ, ◌+◌, ◌*◌, ◌<◌, List, [], ◌++◌, map, length, get_or, set, take, drop, sym, refl, ◌∙◌, subst, arith, length-append}
 use Rattle.ssd1329.specs.declared.transfer.Transfer.{Transfer}
 use Rattle.ssd1329.specs.declared.transfer.Transfer.TheVariants.{Data}
 use Rattle.link.specs.declared.links.Link.{Ghosts}
-use Rattle.link.specs.Links.{LinkMeaning, lefts}
+use Rattle.link.specs.Links.{LinkMeaning}
 use Rattle.marks.specs.Marks.{Cleared}
 use Rattle.marks.specs.Blocks.{Block, Shaped, Part}
-use Rattle.marks.specs.Sending.{Enough, sent_all, Blocking}
+use Rattle.marks.specs.Sending.{sent_all, Blocking}
 use Rattle.marks.proofs.Sends.{sent_none, sent_then}
 use Rattle.marks.proofs.Sweep.{blocking_more}
 use Rattle.screen.specs.declared.slots.Slot.{Slot}
 use Rattle.screen.specs.Slots.{Sends}
-
--- a slot with some left has enough for as many
-pub enough_left : (s : Option ℕ) (k left : ℕ) → left ≤ lefts s → 0 < left → k ≤ left → Enough s k
-enough_left None k left h some l = absurd (omega arith)
-enough_left (Some n) k left h some l = omega arith
 
 -- nothing is sent
 pub sends_none : {L : Type 0} (k : Ghosts L) (s : Slot L k) → Sends k s [] s

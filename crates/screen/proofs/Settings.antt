@@ -1,24 +1,14 @@
 -- Settings that are sent, or not.
-use Rattle.std.proofs.Common.{◌≡◌, ℕ, ◌+◌, ◌<◌, ◌≤◌, Bool, true, false, cond, ◌&&◌, ltb, ◌⊎◌, [], length, sym, refl, ap, ◌∙◌, subst, inl, inr, arith}
-use Rattle.std.proofs.lemmas.Bool.{lt-ltb, le-ltb}
+use Rattle.std.proofs.Common.{◌≡◌, ℕ, ◌+◌, ◌≤◌, Bool, true, false, cond, ◌&&◌, ltb, [], length, refl, subst, arith}
+use Rattle.std.proofs.lemmas.Bool.{le-ltb}
 use Rattle.link.specs.Links.{LinkMeaning}
 use Rattle.marks.specs.Sending.{sent_all}
-use Rattle.marks.proofs.Sends.{sent_none}
 use Rattle.screen.specs.Flushing.{setting}
 
 -- a setting that stays as it was sends nothing
 pub no_setting : (opcode value : ℕ) (owed : Bool) → setting opcode value owed owed ≡ []
 no_setting opcode value true = refl
 no_setting opcode value false = refl
-
-pub setting_unsent : (m : LinkMeaning) (opcode value : ℕ) (owed : Bool) → m ≡ sent_all m (setting opcode value owed owed)
-setting_unsent m opcode value owed = sent_none m ∙ ap (sent_all m) (sym (no_setting opcode value owed))
-
--- it is owed still where it was and the grant is short
-pub still_owed : (owed : Bool) (grant : ℕ) → ((owed ≡ true) × (grant < 3)) ⊎ (owed ≡ false) → owed ≡ (owed && ltb grant 3)
-still_owed true grant (inl h) = sym (lt-ltb grant 3 h.1)
-still_owed true grant (inr e) = let z : ◌≡◌ {A = ℕ} 0 1 = cc in absurd (omega arith)
-still_owed false grant h = refl
 
 -- a setting takes two transfers at most
 pub two : (owed : Bool) → cond owed 2 0 ≤ 2

@@ -1,17 +1,8 @@
 -- A text parted at its first mark.
-use Rattle.std.proofs.Common.{◌≡◌, ℕ, ◌+◌, ◌<◌, ◌≤◌, Bool, true, false, cond, eqb, List, [], ◌∷◌, ◌++◌, length, get_or, take, drop, sym, refl, ap, ◌∙◌}
-use Rattle.std.proofs.lemmas.List.{append_assoc, append-nil, take_more, take_all, at_drop_more, at_drop_all}
+use Rattle.std.proofs.Common.{◌≡◌, ℕ, ◌+◌, ◌<◌, ◌≤◌, Bool, true, false, cond, not, suc, eqb, ltb, List, [], ◌∷◌, length, take, drop, Some, None, sym, refl, ap, ◌∙◌, arith}
+use Rattle.std.proofs.lemmas.Bool.Decides.{nat_tests}
+use Rattle.std.specs.List.{position, position_or_len}
 use Rattle.script.specs.Parts.{longer, parts}
-
--- bytes in front of the first part
-abbrev pub in_front : List ℕ → List (List ℕ) → List (List ℕ)
-in_front xs [] = xs ∷ []
-in_front xs (p ∷ ps) = (xs ++ p) ∷ ps
-
--- A byte more in front of a part is a byte more behind what stands in front of it.
-longer_front : (xs : List ℕ) (b : ℕ) (ps : List (List ℕ)) → in_front xs (longer b ps) ≡ in_front (xs ++ b ∷ []) ps
-longer_front xs b [] = refl
-longer_front xs b (p ∷ ps) = ap (λ q. q ∷ ps) (sym (append_assoc xs (b ∷ []) p))
 
 -- Whether a byte is the mark or not, it makes or lengthens a part.
 some_part : (t : Bool) (b : ℕ) (ps qs : List (List ℕ)) → (p : List ℕ) × (rs : List (List ℕ)) × (cond t ([] ∷ ps) (longer b qs) ≡ p ∷ rs)
@@ -25,33 +16,51 @@ unfolding parts
 some_parts mark [] = ([], [], refl)
 some_parts mark (b ∷ bs) = some_part (eqb b mark) b (parts mark bs) (parts mark bs)
 
--- Nothing stands in front of it yet.
-pub part_begins : (mark : ℕ) (text : List ℕ) → parts mark text ≡ in_front [] (parts mark text)
-part_begins mark text = let s = some_parts mark text in s.2 ∙ sym (ap (in_front []) s.2)
+-- how many bytes stand before the first mark
+abbrev before : ℕ → List ℕ → ℕ
+before mark text = position_or_len (λ b. eqb b mark) text
 
--- It is a byte longer,
-pub part_on : (mark : ℕ) (text : List ℕ) (i : ℕ) → i < length text → eqb (get_or text i 0) mark ≡ false
-    → in_front (take i text) (parts mark (drop i text)) ≡ in_front (take (i + 1) text) (parts mark (drop (i + 1) text))
-unfolding parts
-part_on mark text i l e =
-    let b = get_or text i 0 in
-    let more : parts mark (drop i text) ≡ longer b (parts mark (drop (i + 1) text)) =
-    at_drop_more (parts mark) text i 0 l ∙ ap (λ (t : Bool). cond t ([] ∷ parts mark (drop (i + 1) text)) (longer b (parts mark (drop (i + 1) text)))) e in
-    ap (in_front (take i text)) more ∙ longer_front (take i text) b (parts mark (drop (i + 1) text))
-    ∙ ap (λ f. in_front f (parts mark (drop (i + 1) text))) (sym (take_more text i 0 l))
+-- A byte in front of a part is one more before the mark.
+one_more : (mark b n : ℕ) (bs : List ℕ) (ps : List (List ℕ)) → ps ≡ take n bs ∷ parts mark (drop (n + 1) bs)
+    → longer b ps ≡ take (1 + n) (b ∷ bs) ∷ parts mark (drop (1 + n + 1) (b ∷ bs))
+one_more mark b n bs ps e =
+    let next : 1 + n ≡ suc n = omega arith in
+    let past : 1 + n + 1 ≡ suc (n + 1) = omega arith in
+    ap (longer b) e ∙ sym (ap (λ j. take j (b ∷ bs) ∷ parts mark (drop (1 + n + 1) (b ∷ bs))) next
+    ∙ ap (λ j. (b ∷ take n bs) ∷ parts mark (drop j (b ∷ bs))) past)
 
--- or ends at the mark,
-pub part_ends : (mark : ℕ) (text : List ℕ) (i : ℕ) → i < length text → eqb (get_or text i 0) mark ≡ true
-    → in_front (take i text) (parts mark (drop i text)) ≡ take i text ∷ parts mark (drop (i + 1) text)
+-- A part ends at the mark: at once, or after a byte more,
+ends_by : (t : Bool) (mark b : ℕ) (bs : List ℕ)
+    → (before mark bs < length bs → parts mark bs ≡ take (before mark bs) bs ∷ parts mark (drop (before mark bs + 1) bs))
+    → cond (not t) (1 + before mark bs) 0 < length (b ∷ bs)
+    → cond t ([] ∷ parts mark bs) (longer b (parts mark bs))
+    ≡ take (cond (not t) (1 + before mark bs) 0) (b ∷ bs) ∷ parts mark (drop (cond (not t) (1 + before mark bs) 0 + 1) (b ∷ bs))
+ends_by true mark b bs h l = refl
+ends_by false mark b bs h l = one_more mark b (before mark bs) bs (parts mark bs) (h (omega arith))
+
+part_ends : (mark : ℕ) (text : List ℕ) → before mark text < length text
+    → parts mark text ≡ take (before mark text) text ∷ parts mark (drop (before mark text + 1) text)
 unfolding parts
-part_ends mark text i l e =
-    let b = get_or text i 0 in
-    let more : parts mark (drop i text) ≡ [] ∷ parts mark (drop (i + 1) text) =
-    at_drop_more (parts mark) text i 0 l ∙ ap (λ (t : Bool). cond t ([] ∷ parts mark (drop (i + 1) text)) (longer b (parts mark (drop (i + 1) text)))) e in
-    ap (in_front (take i text)) more ∙ ap (λ f. f ∷ parts mark (drop (i + 1) text)) (append-nil (take i text))
+part_ends mark [] l = absurd (omega arith)
+part_ends mark (b ∷ bs) l = ends_by (eqb b mark) mark b bs (part_ends mark bs) l
+
+pub parted_at : (mark k : ℕ) (text : List ℕ) → Some k ≡ position (λ b. eqb b mark) text
+    → (k < length text) × (parts mark text ≡ take k text ∷ parts mark (drop (k + 1) text))
+parted_at mark k text e =
+    let within : before mark text < length text = grind (arith, nat_tests) in
+    let same : k ≡ before mark text = grind (arith, nat_tests) in
+    rw same (within, part_ends mark text within)
 
 -- or with the text.
-pub part_whole : (mark : ℕ) (text : List ℕ) (i : ℕ) → length text ≤ i → in_front (take i text) (parts mark (drop i text)) ≡ text ∷ []
+whole_by : (t : Bool) (mark b : ℕ) (bs : List ℕ) → (length bs ≤ before mark bs → parts mark bs ≡ bs ∷ [])
+    → length (b ∷ bs) ≤ cond (not t) (1 + before mark bs) 0 → cond t ([] ∷ parts mark bs) (longer b (parts mark bs)) ≡ (b ∷ bs) ∷ []
+whole_by true mark b bs h l = absurd (omega arith)
+whole_by false mark b bs h l = ap (longer b) (h (omega arith))
+
+part_whole : (mark : ℕ) (text : List ℕ) → length text ≤ before mark text → parts mark text ≡ text ∷ []
 unfolding parts
-part_whole mark text i l =
-    ap (in_front (take i text)) (at_drop_all (parts mark) text i l) ∙ ap (λ f. f ∷ []) (append-nil (take i text) ∙ take_all i text l)
+part_whole mark [] l = refl
+part_whole mark (b ∷ bs) l = whole_by (eqb b mark) mark b bs (part_whole mark bs) l
+
+pub unparted : (mark : ℕ) (text : List ℕ) → None ≡ position (λ b. eqb b mark) text → parts mark text ≡ text ∷ []
+unparted mark text e = part_whole mark text (grind (arith, nat_tests))

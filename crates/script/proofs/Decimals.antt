@@ -1,6 +1,8 @@
 -- Numbers read digit by digit.
-use Rattle.std.proofs.Common.{◌≡◌, ℕ, ◌+◌, ◌-◌, ◌*◌, ◌^◌, ◌<◌, ◌≤◌, true, false, ◌&&◌, eqb, ltb, List, [], ◌∷◌, length, get_or, drop, Some, None, Option, sym, refl, ap, arith}
+use Rattle.std.proofs.Common.{◌≡◌, ℕ, ◌+◌, ◌-◌, ◌*◌, ◌^◌, ◌<◌, ◌≤◌, true, false, ◌&&◌, eqb, ltb, List, [], ◌∷◌, length, take, drop, Some, None, Option, sym, refl, ap, arith}
 use Rattle.std.proofs.lemmas.Bool.Decides.{nat_tests}
+use Rattle.std.proofs.lemmas.Bool.{false≢true}
+use Rattle.std.specs.Cmp.Lexicographic.{pointwise}
 use Rattle.script.specs.Numbers.{is_digit, number_on, fitting, unsigned, positive, negative, signed}
 
 -- A number never falls as it goes on.
@@ -44,13 +46,13 @@ unsigned_some [] l = absurd (omega arith)
 unsigned_some (c ∷ cs) l = refl
 
 -- With a minus in front the digits after it are read.
-pub signed_minus : (cs : List ℕ) → 0 < length cs → get_or cs 0 0 ≡ 45 → signed cs ≡ negative (unsigned (drop 1 cs))
+pub signed_minus : (cs : List ℕ) → pointwise eqb (take 1 cs) (45 ∷ []) ≡ true → signed cs ≡ negative (unsigned (drop 1 cs))
 unfolding signed
-signed_minus [] l e = absurd (omega arith)
-signed_minus (c ∷ cs) l e = rw e refl
+signed_minus [] e = absurd (false≢true e)
+signed_minus (c ∷ cs) e = let minus : eqb c 45 ≡ true = grind (arith, nat_tests) in rw minus refl
 
 -- Without one the whole field is.
-pub signed_plain : (cs : List ℕ) → (0 < length cs → get_or cs 0 0 ≡ 45 → ⊥) → signed cs ≡ positive (unsigned cs)
+pub signed_plain : (cs : List ℕ) → pointwise eqb (take 1 cs) (45 ∷ []) ≡ false → signed cs ≡ positive (unsigned cs)
 unfolding signed
-signed_plain [] h = ap positive (sym (unsigned_none [] refl))
-signed_plain (c ∷ cs) h = let other : eqb c 45 ≡ false = grind (arith, nat_tests, h (omega arith)) in rw other refl
+signed_plain [] e = ap positive (sym (unsigned_none [] refl))
+signed_plain (c ∷ cs) e = let other : eqb c 45 ≡ false = grind (arith, nat_tests) in rw other refl

@@ -13,3 +13,4 @@ pub mod Heads
 pub mod Scripts
 pub mod Ahead
 pub mod Whole
+pub mod Wirings

@@ -1,16 +1,19 @@
 // Where a text is parted.
-ghost use Rattle.std.specs.Prelude.{◌≡◌, ◌+◌, ◌<◌, [], ◌∷◌, length, take, drop, MatchOption};
+ghost use Rattle.std.specs.Prelude.{◌≡◌, ◌<◌, [], ◌∷◌, ◌==◌, length, position, MatchOption};
 ghost use Rattle.script.specs.Parts.{parts};
 
-// The place of the first byte that is the mark.
-pub fn first_cut(text: &[u8], mark: u8) -> Option<usize>
-    ensures { MatchOption result (parts mark text.now ≡ text.now ∷ [])
-        (λ k. (k < length text.now) × (parts mark text.now ≡ take k text.now ∷ parts mark (drop (k + 1) text.now))) }
+fn first_mark(text: &[u8], mark: u8) -> Option<usize>
+    ensures { result ≡ position (λ b. b == mark) text.now }
 {
-    for (i, b) in text.iter().enumerate() {
-        if *b == mark {
-            return Some(i);
-        }
-    }
-    None
+    text.iter().position(|b| *b == mark)
+}
+
+// The text before the first byte that is the mark, and the text after it.
+pub fn cut(text: &[u8], mark: u8) -> Option<(&[u8], &[u8])>
+    ensures parted { MatchOption result (parts mark text.now ≡ text.now ∷ [])
+        (λ cut. parts mark text.now ≡ cut.0.now ∷ parts mark cut.1.now) }
+    ensures shorter { MatchOption result (text.now ≡ text.now) (λ cut. length cut.1.now < length text.now) }
+{
+    let place = first_mark(text, mark)?;
+    Some((&text[..place], &text[place + 1..]))
 }

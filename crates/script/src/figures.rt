@@ -1,7 +1,6 @@
 // The pictures of a script.
 use picture::{BitPicture, Crop, Either, GrayPicture, Inverse};
 
-pub mod makes;
 pub mod takes;
 
 // Dots read from bytes.

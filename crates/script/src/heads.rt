@@ -1,18 +1,19 @@
 // The first two lines of a script.
-ghost use Rattle.std.specs.Prelude.{◌≡◌};
-ghost use Rattle.script.specs.Readings.{with_left};
 ghost use Rattle.script.specs.Left.{left};
+ghost use Rattle.script.specs.Faults.{Reads, Takes};
 ghost use Rattle.script.specs.Heads.{card_by, card, buffer};
 
+use crate::fault::Fault;
 use crate::fields::Fields;
 use crate::script::Card;
+use crate::words::Marks;
 
-fn take_card(fields: &mut Fields<'_>) -> Option<Card>
-    ensures { with_left result (left fields.new) ≡ card_by (left fields.old) }
+fn take_card(fields: &mut Fields<'_>) -> Result<Card, Fault>
+    ensures { Takes (λ x. x) (card_by (left fields.old)) (left fields.new) result }
 {
-    let marks = fields.marks()?;
-    let shift = fields.unsigned()?;
-    Some(Card {
+    let marks: Marks = fields.take()?;
+    let shift = fields.take()?;
+    Ok(Card {
         mirrored: marks.mirrored,
         flipped: marks.flipped,
         comb: marks.comb,
@@ -21,27 +22,21 @@ fn take_card(fields: &mut Fields<'_>) -> Option<Card>
 }
 
 // The line of the module's card, without its newline.
-pub fn read_card(text: &[u8]) -> Option<Card>
-    ensures { result ≡ card text.now }
+pub fn read_card(text: &[u8]) -> Result<Card, Fault>
+    ensures { Reads (λ x. x) (card text.now) result }
 {
     let mut fields = Fields::of(text);
     fields.word(b"card")?;
     let card = take_card(&mut fields)?;
-    match fields.next() {
-        None => Some(card),
-        Some(_) => None,
-    }
+    fields.end(card)
 }
 
 // The line of the buffer's size, without its newline.
-pub fn read_buffer(text: &[u8]) -> Option<u32>
-    ensures { result ≡ buffer text.now }
+pub fn read_buffer(text: &[u8]) -> Result<u32, Fault>
+    ensures { Reads (λ x. x) (buffer text.now) result }
 {
     let mut fields = Fields::of(text);
     fields.word(b"buffer")?;
-    let bytes = fields.unsigned()?;
-    match fields.next() {
-        None => Some(bytes),
-        Some(_) => None,
-    }
+    let bytes = fields.take()?;
+    fields.end(bytes)
 }

@@ -19,9 +19,7 @@ fn hex_digit(c: u8) -> Option<u8>
 fn octet(a: u8, b: u8) -> Option<u8>
     ensures { result ≡ octet a b }
 {
-    let a = hex_digit(a)?;
-    let b = hex_digit(b)?;
-    Some(16 * a + b)
+    Some(16 * hex_digit(a)? + hex_digit(b)?)
 }
 
 pub fn hex_bytes(heap: Global, field: &[u8]) -> Result<Vec<u8>, Fault>
@@ -29,14 +27,9 @@ pub fn hex_bytes(heap: Global, field: &[u8]) -> Result<Vec<u8>, Fault>
 {
     let mut bytes = Vec::new(heap);
     let mut rest = field;
-    while rest.len() >= 2 {
-        let Some(byte) = octet(rest[0], rest[1]) else {
-            return Err(Fault::Unreadable);
-        };
-        if bytes.push(byte).is_err() {
-            return Err(Fault::NoMemory);
-        }
-        rest = &rest[2..];
+    while let [a, b, after @ ..] = rest {
+        bytes.push(octet(*a, *b).ok_or(Fault::Unreadable)?)?;
+        rest = after;
     }
     if rest.is_empty() {
         Ok(bytes)

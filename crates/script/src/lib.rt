@@ -6,6 +6,7 @@
 mod ahead;
 mod cuts;
 mod fault;
+mod field;
 mod fields;
 mod figures;
 mod heads;

@@ -1,55 +1,48 @@
 // Numbers, as fields write them.
-ghost use Rattle.std.specs.Prelude.{◌≡◌, ◌+◌, ◌-◌, ◌*◌, ◌^◌, ◌&&◌, nat_lt};
-ghost use Rattle.script.specs.Numbers.{passing, is_digit, unsigned, positive, negative, signed};
+ghost use Rattle.std.specs.Prelude.{◌≡◌, ◌+◌, ◌-◌, ◌*◌, ◌^◌, ◌&&◌, min, nat_lt};
+ghost use Rattle.script.specs.Numbers.{passing, is_digit, unsigned, signed};
 
-fn is_digit(c: u8) -> bool
-    ensures { result ≡ is_digit c }
-{
-    c >= b'0' && c <= b'9'
-}
+use crate::field::Field;
 
 // The number after one digit more, if it fits.
 fn with_digit(n: u32, c: u8) -> Option<u32>
     ensures { result ≡ passing (is_digit c && nat_lt (10 * n + (c - 48)) (2 ^ 32)) (10 * n + (c - 48)) }
 {
-    if !is_digit(c) {
-        return None;
-    }
-    n.checked_mul(10)?.checked_add(u32::from(c - b'0'))
+    let digit = char::from(c).to_digit(10)?;
+    n.checked_mul(10)?.checked_add(digit)
 }
 
 // A number of digits alone.
-pub fn unsigned(field: &[u8]) -> Option<u32>
-    ensures { result ≡ unsigned field.now }
-{
-    if field.is_empty() {
-        return None;
-    }
-    let mut n = 0;
-    for c in field {
-        n = with_digit(n, *c)?;
-    }
-    Some(n)
-}
+impl Field for u32 {
+    ghost says = { unsigned };
 
-fn positive(n: Option<u32>) -> Option<i32>
-    ensures { result ≡ positive n }
-{
-    i32::try_from(n?).ok()
-}
-
-fn negative(n: Option<u32>) -> Option<i32>
-    ensures { result ≡ negative n }
-{
-    i32::try_from(-i64::from(n?)).ok()
+    fn read(field: &[u8]) -> Option<u32> {
+        if field.is_empty() {
+            return None;
+        }
+        let mut n = 0;
+        for c in field {
+            n = with_digit(n, *c)?;
+        }
+        Some(n)
+    }
 }
 
 // A number that may have a minus in front.
-pub fn signed(field: &[u8]) -> Option<i32>
-    ensures { result ≡ signed field.now }
-{
-    if field.len() > 0 && field[0] == b'-' {
-        return negative(unsigned(&field[1..]));
+impl Field for i32 {
+    ghost says = { signed };
+
+    fn read(field: &[u8]) -> Option<i32> {
+        match field.strip_prefix(b"-") {
+            Some(digits) => i32::try_from(-i64::from(u32::read(digits)?)).ok(),
+            None => i32::try_from(u32::read(field)?).ok(),
+        }
     }
-    positive(unsigned(field))
+}
+
+// A number as a byte: one above 255 counts as 255.
+pub fn as_byte(n: u32) -> u8
+    ensures { result ≡ min n 255 }
+{
+    n.min(255) as u8
 }

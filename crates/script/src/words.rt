@@ -1,6 +1,6 @@
 // The words of a script.
 
-pub mod tables;
+mod tables;
 
 // What a line asks for.
 #[derive(Clone, Copy)]

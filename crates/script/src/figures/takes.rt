@@ -1,110 +1,82 @@
 // Pictures, as the fields of a line say them.
 ghost use Rattle.script.specs.Figures.{bits, grays, base, shade, figure_by, figure};
-ghost use Rattle.script.specs.Meanings.{base_kind, shade_kind, figure_kind, made_means};
-ghost use Rattle.script.specs.declared.words.Kind.TheVariants.{Inverse, Crop};
+ghost use Rattle.script.specs.Meanings.{base_kind, shade_kind, figure_kind, Makes};
 ghost use Rattle.script.specs.Left.{left};
-ghost use Rattle.script.specs.Faults.{Takes};
 
-use super::makes::{as_figure, as_shade, make_bits, make_crop, make_grays, make_inverse};
 use super::{Base, Figure, Shade};
-use crate::fault::Fault;
+use crate::fault::{Fault, Unmade};
 use crate::fields::Fields;
+use crate::numbers::as_byte;
 use crate::words::Kind;
-use refusal::Refusal;
+use picture::{BitPicture, Crop, Either, GrayPicture, Inverse};
 use std::alloc::Global;
 
-fn take_bits(heap: Global, fields: &mut Fields<'_>) -> Result<Result<Base, Refusal>, Fault>
-    ensures { Takes (made_means base_kind) (bits (left fields.old)) (left fields.new) result }
+fn take_bits(heap: Global, fields: &mut Fields<'_>) -> Result<Base, Unmade>
+    ensures { Makes base_kind (bits (left fields.old)) (left fields.new) result }
 {
-    let Some(size) = fields.extent() else {
-        return Err(Fault::Unreadable);
-    };
-    let Some(gray) = fields.unsigned() else {
-        return Err(Fault::Unreadable);
-    };
+    let size = fields.extent()?;
+    let gray = as_byte(fields.take()?);
     let bytes = fields.bytes(heap)?;
-    Ok(make_bits(bytes, size, gray))
+    let picture = BitPicture::new(bytes, size.width, size.height, gray)?;
+    Ok(Either::First(picture))
 }
 
-fn take_grays(heap: Global, fields: &mut Fields<'_>) -> Result<Result<Base, Refusal>, Fault>
-    ensures { Takes (made_means base_kind) (grays (left fields.old)) (left fields.new) result }
+fn take_grays(heap: Global, fields: &mut Fields<'_>) -> Result<Base, Unmade>
+    ensures { Makes base_kind (grays (left fields.old)) (left fields.new) result }
 {
-    let Some(size) = fields.extent() else {
-        return Err(Fault::Unreadable);
-    };
+    let size = fields.extent()?;
     let bytes = fields.bytes(heap)?;
-    Ok(make_grays(bytes, size))
+    let picture = GrayPicture::new(bytes, size.width, size.height)?;
+    Ok(Either::Second(picture))
 }
 
 // Dots, by the word that came before them.
-fn take_base(
-    heap: Global,
-    kind: Kind,
-    fields: &mut Fields<'_>,
-) -> Result<Result<Base, Refusal>, Fault>
-    ensures { Takes (made_means base_kind) (base kind (left fields.old)) (left fields.new) result }
+fn take_base(heap: Global, kind: Kind, fields: &mut Fields<'_>) -> Result<Base, Unmade>
+    ensures { Makes base_kind (base kind (left fields.old)) (left fields.new) result }
 {
     match kind {
         Kind::Bits => take_bits(heap, fields),
         Kind::Grays => take_grays(heap, fields),
-        Kind::Inverse => Err(Fault::Unreadable),
-        Kind::Crop => Err(Fault::Unreadable),
+        Kind::Inverse | Kind::Crop => Err(Unmade::NotRead(Fault::Unreadable)),
     }
 }
 
-fn take_inverse(heap: Global, fields: &mut Fields<'_>) -> Result<Result<Shade, Refusal>, Fault>
-    ensures { Takes (made_means shade_kind) (shade Inverse (left fields.old)) (left fields.new) result }
+fn take_inverse(heap: Global, fields: &mut Fields<'_>) -> Result<Shade, Unmade>
+    ensures { Makes shade_kind (shade Kind.Inverse (left fields.old)) (left fields.new) result }
 {
-    let Some(kind) = fields.kind() else {
-        return Err(Fault::Unreadable);
-    };
+    let kind = fields.take()?;
     let base = take_base(heap, kind, fields)?;
-    Ok(make_inverse(base))
+    Ok(Either::Second(Inverse::new(base)))
 }
 
 // Dots or their inverse, by the word that came before them.
-fn take_shade(
-    heap: Global,
-    kind: Kind,
-    fields: &mut Fields<'_>,
-) -> Result<Result<Shade, Refusal>, Fault>
-    ensures { Takes (made_means shade_kind) (shade kind (left fields.old)) (left fields.new) result }
+fn take_shade(heap: Global, kind: Kind, fields: &mut Fields<'_>) -> Result<Shade, Unmade>
+    ensures { Makes shade_kind (shade kind (left fields.old)) (left fields.new) result }
 {
     match kind {
         Kind::Inverse => take_inverse(heap, fields),
-        Kind::Crop => Err(Fault::Unreadable),
-        _ => {
-            let base = take_base(heap, kind, fields)?;
-            Ok(as_shade(base))
-        }
+        Kind::Crop => Err(Unmade::NotRead(Fault::Unreadable)),
+        _ => Ok(Either::First(take_base(heap, kind, fields)?)),
     }
 }
 
-fn take_crop(heap: Global, fields: &mut Fields<'_>) -> Result<Result<Figure, Refusal>, Fault>
-    ensures { Takes (made_means figure_kind) (figure_by Crop (left fields.old)) (left fields.new) result }
+fn take_crop(heap: Global, fields: &mut Fields<'_>) -> Result<Figure, Unmade>
+    ensures { Makes figure_kind (figure_by Kind.Crop (left fields.old)) (left fields.new) result }
 {
-    let Some(part) = fields.part() else {
-        return Err(Fault::Unreadable);
-    };
-    let Some(kind) = fields.kind() else {
-        return Err(Fault::Unreadable);
-    };
+    let part = fields.part()?;
+    let kind = fields.take()?;
     let shade = take_shade(heap, kind, fields)?;
-    Ok(make_crop(part, shade))
+    let size = part.size;
+    let crop = Crop::new(shade, part.left, part.top, size.width, size.height)?;
+    Ok(Either::Second(crop))
 }
 
 // A picture, which a word begins.
-pub fn take_figure(heap: Global, fields: &mut Fields<'_>) -> Result<Result<Figure, Refusal>, Fault>
-    ensures { Takes (made_means figure_kind) (figure (left fields.old)) (left fields.new) result }
+pub fn take_figure(heap: Global, fields: &mut Fields<'_>) -> Result<Figure, Unmade>
+    ensures { Makes figure_kind (figure (left fields.old)) (left fields.new) result }
 {
-    let Some(kind) = fields.kind() else {
-        return Err(Fault::Unreadable);
-    };
-    match kind {
+    match fields.take()? {
         Kind::Crop => take_crop(heap, fields),
-        _ => {
-            let shade = take_shade(heap, kind, fields)?;
-            Ok(as_figure(shade))
-        }
+        kind => Ok(Either::First(take_shade(heap, kind, fields)?)),
     }
 }

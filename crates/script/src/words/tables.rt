@@ -1,85 +1,66 @@
 // What each word stands for.
-ghost use Rattle.std.specs.Prelude.{◌≡◌, Some};
-ghost use Rattle.std.specs.Str.{bytes_eq};
+ghost use Rattle.std.specs.Prelude.{◌≡◌};
 ghost use Rattle.script.specs.Words.{verb, kind, marked, marks};
 
 use super::{Kind, Marks, Verb};
+use crate::field::Field;
 
-pub fn is(name: &[u8], word: &[u8]) -> bool
-    ensures { result ≡ bytes_eq name.now word.now }
-{
-    name == word
-}
+impl Field for Verb {
+    ghost says = { verb };
 
-pub fn verb_of(word: &[u8]) -> Option<Verb>
-    ensures { result ≡ verb word.now }
-{
-    if is(b"ink", word) {
-        Some(Verb::Ink)
-    } else if is(b"dot", word) {
-        Some(Verb::Dot)
-    } else if is(b"bar", word) {
-        Some(Verb::Bar)
-    } else if is(b"place", word) {
-        Some(Verb::Place)
-    } else if is(b"narrow", word) {
-        Some(Verb::Narrow)
-    } else if is(b"end", word) {
-        Some(Verb::End)
-    } else if is(b"flush", word) {
-        Some(Verb::Flush)
-    } else {
-        None
+    fn read(word: &[u8]) -> Option<Verb> {
+        match word {
+            b"ink" => Some(Verb::Ink),
+            b"dot" => Some(Verb::Dot),
+            b"bar" => Some(Verb::Bar),
+            b"place" => Some(Verb::Place),
+            b"narrow" => Some(Verb::Narrow),
+            b"end" => Some(Verb::End),
+            b"flush" => Some(Verb::Flush),
+            _ => None,
+        }
     }
 }
 
-pub fn kind_of(word: &[u8]) -> Option<Kind>
-    ensures { result ≡ kind word.now }
-{
-    if is(b"bits", word) {
-        Some(Kind::Bits)
-    } else if is(b"grays", word) {
-        Some(Kind::Grays)
-    } else if is(b"inverse", word) {
-        Some(Kind::Inverse)
-    } else if is(b"crop", word) {
-        Some(Kind::Crop)
-    } else {
-        None
+impl Field for Kind {
+    ghost says = { kind };
+
+    fn read(word: &[u8]) -> Option<Kind> {
+        match word {
+            b"bits" => Some(Kind::Bits),
+            b"grays" => Some(Kind::Grays),
+            b"inverse" => Some(Kind::Inverse),
+            b"crop" => Some(Kind::Crop),
+            _ => None,
+        }
     }
 }
 
-fn marked(mirrored: bool, flipped: bool, comb: bool) -> Option<Marks>
-    ensures { result ≡ Some (marked mirrored flipped comb) }
+fn marked(mirrored: bool, flipped: bool, comb: bool) -> Marks
+    ensures { result ≡ marked mirrored flipped comb }
 {
-    Some(Marks {
+    Marks {
         mirrored,
         flipped,
         comb,
-    })
+    }
 }
 
 // Letters of `mfc`, in this order, or `-`.
-pub fn marks_of(word: &[u8]) -> Option<Marks>
-    ensures { result ≡ marks word.now }
-{
-    if is(b"-", word) {
-        marked(false, false, false)
-    } else if is(b"m", word) {
-        marked(true, false, false)
-    } else if is(b"f", word) {
-        marked(false, true, false)
-    } else if is(b"c", word) {
-        marked(false, false, true)
-    } else if is(b"mf", word) {
-        marked(true, true, false)
-    } else if is(b"mc", word) {
-        marked(true, false, true)
-    } else if is(b"fc", word) {
-        marked(false, true, true)
-    } else if is(b"mfc", word) {
-        marked(true, true, true)
-    } else {
-        None
+impl Field for Marks {
+    ghost says = { marks };
+
+    fn read(word: &[u8]) -> Option<Marks> {
+        match word {
+            b"-" => Some(marked(false, false, false)),
+            b"m" => Some(marked(true, false, false)),
+            b"f" => Some(marked(false, true, false)),
+            b"c" => Some(marked(false, false, true)),
+            b"mf" => Some(marked(true, true, false)),
+            b"mc" => Some(marked(true, false, true)),
+            b"fc" => Some(marked(false, true, true)),
+            b"mfc" => Some(marked(true, true, true)),
+            _ => None,
+        }
     }
 }

@@ -1,6 +1,7 @@
-use Rattle.std.proofs.Common.{◌≡◌, ◌+◌, true, false, [], ◌∷◌, ◌++◌, map, None, vec_items, sym, ap, ◌∙◌, arith, rules}
+use Rattle.std.proofs.Common.{◌≡◌, ◌+◌, ◌<◌, length, true, false, [], ◌∷◌, ◌++◌, map, Some, None, Ok, Err, vec_items, vec_len, sym, ap, ◌∙◌, arith, rules}
 use Rattle.std.proofs.lemmas.List.{map_push}
-use Rattle.script.specs.Ahead.{ahead, ended}
+use Rattle.script.specs.Parts.{a_line}
+use Rattle.script.specs.Ahead.{ahead, ended, next_line}
 use Rattle.script.specs.Calls.{line_means}
 use Rattle.script.specs.Lines.{line}
 use Rattle.script.specs.Scripts.{calls_from}
@@ -8,36 +9,47 @@ use Rattle.script.specs.Whole.{lines_mean}
 use Rattle.script.proofs.Running.{after, line_on, line_stops, no_line_stops, lines_end}
 use Rattle.script.proofs.reads.read_lines.Goals as goal
 
-pub returns-in_default : goal.returns-in_default
-returns-in_default c =
+pub returns-in_err-line : goal.returns-in_err-line
+returns-in_err-line c =
     let here = ahead c.loop-ahead.ahead in
+    let n = 3 + vec_len c.loop-ahead.lines in
     let on : ended here ≡ false = search rules in
-    c.loop-ahead.invariant.0 ∙ no_line_stops (lines_mean c.loop-ahead.lines) c.loop-ahead.number here on c.in_default.ensures.line
+    let none : next_line here ≡ None = search rules in
+    let stops : calls_from 3 (ahead c.args.text) ≡ Err n = c.loop-ahead.invariant.0 ∙ no_line_stops (lines_mean c.loop-ahead.lines) n here on none in
+    search rules
 
-pub returns-in-Err-Unreadable : goal.returns-in-Err-Unreadable
-returns-in-Err-Unreadable c =
+pub returns-in_err-line-2 : goal.returns-in_err-line-2
+returns-in_err-line-2 c =
     let before = lines_mean c.loop-ahead.lines in
-    let n = c.loop-ahead.number in
-    let bytes = c.in-Some.line.now in
-    let nothing : line bytes ≡ None = search rules in
-    c.loop-ahead.invariant.0 ∙ ap (λ ls. after before (calls_from n ls)) c.in-Some.ensures.line
-    ∙ line_stops before n bytes (ahead c.next.new.self) nothing
+    let n = 3 + vec_len c.loop-ahead.lines in
+    let bytes = c.in_ok-line.line.now in
+    let more = ahead c.next.new.self in
+    let next : ahead c.loop-ahead.ahead ≡ a_line bytes more = search rules in
+    let stops : line bytes ≡ None → calls_from 3 (ahead c.args.text) ≡ Err n =
+    λ nothing. c.loop-ahead.invariant.0 ∙ ap (λ ls. after before (calls_from n ls)) next ∙ line_stops before n bytes more nothing in
+    search rules
 
 pub loop-ahead-preserved : goal.loop-ahead-preserved
 loop-ahead-preserved c =
     let before = vec_items c.loop-ahead.lines in
-    let n = c.loop-ahead.number in
-    let bytes = c.in-Some.line.now in
+    let n = 3 + vec_len c.loop-ahead.lines in
+    let bytes = c.in_ok-line.line.now in
     let more = ahead c.next.new.self in
-    let pushed : vec_items c.push.new.self ≡ before ++ c.in-Ok.line ∷ [] = search rules in (
-      c.loop-ahead.invariant.0 ∙ ap (λ ls. after (map line_means before) (calls_from n ls)) c.in-Some.ensures.line
-          ∙ line_on (map line_means before) n bytes more (line_means c.in-Ok.line) c.in-Ok.ensures
-          ∙ ap (λ ms. after ms (calls_from (n + 1) more)) (sym (ap (map line_means) pushed ∙ map_push line_means before c.in-Ok.line)),
-      omega (arith, c.in-Some.ensures.shorter),
+    let read = c.in_ok-line-2.line in
+    let next : ahead c.loop-ahead.ahead ≡ a_line bytes more = search rules in
+    let says : line bytes ≡ Some (line_means read) = search rules in
+    let pushed : vec_items c.push.new.self ≡ before ++ read ∷ [] = search rules in
+    let shorter : length c.next.new.self.rest.now < length c.loop-ahead.ahead.rest.now = search rules in
+    let count : n + 1 ≡ 3 + vec_len c.push.new.self = omega (arith, c.in_ok-push.ensures.len) in (
+      c.loop-ahead.invariant.0 ∙ ap (λ ls. after (map line_means before) (calls_from n ls)) next
+          ∙ line_on (map line_means before) n bytes more (line_means read) says
+          ∙ ap (λ ms. after ms (calls_from (n + 1) more)) (sym (ap (map line_means) pushed ∙ map_push line_means before read))
+          ∙ ap (λ k. after (lines_mean c.push.new.self) (calls_from k more)) count,
+      omega (arith, c.in_ok-push.ensures.len),
     )
 
 pub returns : goal.returns
 returns c =
     let here = ahead c.loop-ahead.ahead in
     let end : ended here ≡ true = search rules in
-    c.loop-ahead.invariant.0 ∙ lines_end (lines_mean c.loop-ahead.lines) c.loop-ahead.number here end
+    c.loop-ahead.invariant.0 ∙ lines_end (lines_mean c.loop-ahead.lines) (3 + vec_len c.loop-ahead.lines) here end

@@ -3,7 +3,7 @@ use Rattle.std.proofs.lemmas.List.{at_drop_more, at_drop_all}
 use Rattle.std.proofs.lemmas.Bool.Decides.{nat_tests}
 use Rattle.script.specs.Numbers.{is_digit, number_on, fitting}
 use Rattle.script.proofs.Decimals.{digit_on, digit_stops, unsigned_none, unsigned_some}
-use Rattle.script.proofs.numbers.unsigned.Goals as goal
+use Rattle.script.proofs.numbers.U32Field.read.Goals as goal
 
 pub returns-then-is_empty : goal.returns-then-is_empty
 returns-then-is_empty c = sym (unsigned_none c.args.field.now (grind (arith, nat_tests)))

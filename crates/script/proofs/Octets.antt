@@ -1,7 +1,8 @@
 -- Bytes read two digits at a time.
 use Rattle.std.proofs.Common.{◌≡◌, ℕ, ◌≤◌, List, [], ◌∷◌, ◌++◌, length, get_or, drop, Some, None, Option, sym, refl, ap, ◌∙◌, arith}
 use Rattle.std.proofs.lemmas.List.{append_assoc, append-nil}
-use Rattle.script.specs.Hex.{byte_and, octet, bytes_of_hex}
+use Rattle.listing.specs.Octets.{octet}
+use Rattle.script.specs.Hex.{byte_and, bytes_of_hex}
 
 -- bytes that are read, and those that follow them
 abbrev pub bytes_and : List ℕ → Option (List ℕ) → Option (List ℕ)

@@ -43,9 +43,3 @@ unfolding calls_from
 lines_end ms n no_more e = ap Ok (append-nil ms)
 lines_end ms n unended e = let z : ◌≡◌ {A = ℕ} 0 1 = cc in absurd (omega arith)
 lines_end ms n (a_line bytes more) e = let z : ◌≡◌ {A = ℕ} 0 1 = cc in absurd (omega arith)
-
--- Without a second line there is no script.
-pub no_buffer : (c : Card) (ls : Lines) → next_line ls ≡ None → after_card c ls ≡ Err 2
-no_buffer c no_more e = refl
-no_buffer c unended e = refl
-no_buffer c (a_line bytes more) e = let z : ◌≡◌ {A = ℕ} 0 1 = cc in absurd (omega arith)

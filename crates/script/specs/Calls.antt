@@ -4,13 +4,17 @@ use Rattle.drawing.specs.Book as book
 use Rattle.screen.specs.Scripts.{meant}
 use Rattle.script.specs.declared.script.Line.{Line}
 use Rattle.script.specs.declared.script.Line.TheVariants.{Made, Refused}
-use Rattle.script.specs.Meanings.{figure_kind}
+use Rattle.screen.specs.declared.scripts.Call.{Call}
+use Rattle.script.specs.Meanings.{Figure, figure_kind}
 
 -- a call to be made, or the refusal of a picture that cannot be made
 pub data LineMeaning : Type 0 where
   calls : book.Call → LineMeaning
   refuses : Refusal → LineMeaning
 
+abbrev pub call_means : Call Figure → LineMeaning
+call_means c = calls (meant figure_kind c)
+
 abbrev pub line_means : Line → LineMeaning
-line_means (Made c) = calls (meant figure_kind c)
+line_means (Made c) = call_means c
 line_means (Refused why) = refuses why

@@ -1,5 +1,5 @@
 -- What the pictures of a script mean.
-use Rattle.std.specs.Prelude.{◌≡◌, ℕ, List, Some, None, Ok, Err, vec_items, Result, Vec}
+use Rattle.std.specs.Prelude.{ℕ, Ok, vec_items, Vec}
 use Rattle.std.specs.declared.alloc.Global.{Global}
 use Rattle.picture.specs.declared.bytes.Bytes.{Ghosts as BytesGhosts}
 use Rattle.picture.specs.declared.pictures.Picture.{Ghosts as PictureGhosts}
@@ -10,10 +10,6 @@ use Rattle.picture.specs.declared.kinds.Crop.{Crop}
 use Rattle.picture.specs.declared.kinds.Either.{Either}
 use Rattle.picture.specs.Kinds.{bits_mean, grays_mean, inverse_means, crop_means, either_means}
 use Rattle.picture.specs.Lawfulness.{bits_lawful, grays_lawful, inverse_lawful, crop_lawful, either_lawful}
-use Rattle.script.specs.declared.fault.Fault.TheVariants.{Unreadable, NoMemory}
-use Rattle.script.specs.declared.fault.Unmade.{Unmade}
-use Rattle.script.specs.declared.fault.Unmade.TheVariants.{Refused, NotRead}
-use Rattle.script.specs.Readings.{Said}
 use Rattle.script.specs.Figures.{Made}
 
 abbrev pub Base : Type 0
@@ -50,10 +46,6 @@ crop_kind = record { means = crop_means shade_kind; lawful = crop_lawful shade_k
 abbrev pub figure_kind : PictureGhosts Figure
 figure_kind = record { means = either_means shade_kind crop_kind; lawful = either_lawful shade_kind crop_kind }
 
--- what the fields of a picture say, as they are read: the picture or its refusal, with the fields that are left; without
--- memory nothing is known of it
-abbrev pub Makes : {P : Type 0} → PictureGhosts P → Said Made → List (List ℕ) → Result P Unmade → Type 0
-Makes kind said left (Ok p) = said ≡ Some (Ok (kind.means p), left)
-Makes kind said left (Err (Refused why)) = said ≡ Some (Err why, left)
-Makes kind said left (Err (NotRead Unreadable)) = said ≡ None
-Makes kind said left (Err (NotRead NoMemory)) = Unit {0}
+-- a picture that was made, with what its making means
+abbrev pub made : {P : Type 0} → PictureGhosts P → P → Made
+made kind p = Ok (kind.means p)

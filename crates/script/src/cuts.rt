@@ -1,5 +1,5 @@
 // Where a text is parted.
-ghost use Rattle.std.specs.Prelude.{◌≡◌, ◌<◌, [], ◌∷◌, ◌==◌, length, position, MatchOption};
+ghost use Rattle.std.specs.Prelude.{◌≡◌, ◌<◌, [], ◌∷◌, ◌==◌, length, position, MatchOption, IfSome};
 ghost use Rattle.script.specs.Parts.{parts};
 
 fn first_mark(text: &[u8], mark: u8) -> Option<usize>
@@ -12,7 +12,7 @@ fn first_mark(text: &[u8], mark: u8) -> Option<usize>
 pub fn cut(text: &[u8], mark: u8) -> Option<(&[u8], &[u8])>
     ensures parted { MatchOption result (parts mark text.now ≡ text.now ∷ [])
         (λ cut. parts mark text.now ≡ cut.0.now ∷ parts mark cut.1.now) }
-    ensures shorter { MatchOption result (text.now ≡ text.now) (λ cut. length cut.1.now < length text.now) }
+    ensures shorter { IfSome result (λ cut. length cut.1.now < length text.now) }
 {
     let place = first_mark(text, mark)?;
     Some((&text[..place], &text[place + 1..]))

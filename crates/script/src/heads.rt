@@ -1,5 +1,4 @@
 // The first two lines of a script.
-ghost use Rattle.script.specs.Left.{left};
 ghost use Rattle.script.specs.Faults.{Reads, Takes};
 ghost use Rattle.script.specs.Heads.{card_by, card, buffer};
 
@@ -9,14 +8,18 @@ use crate::script::Card;
 use crate::words::Marks;
 
 fn take_card(fields: &mut Fields<'_>) -> Result<Card, Fault>
-    ensures { Takes (λ x. x) (card_by (left fields.old)) (left fields.new) result }
+    ensures { Takes (λ x. x) card_by fields.old fields.new result }
 {
-    let marks: Marks = fields.take()?;
+    let Marks {
+        mirrored,
+        flipped,
+        comb,
+    } = fields.take()?;
     let shift = fields.take()?;
     Ok(Card {
-        mirrored: marks.mirrored,
-        flipped: marks.flipped,
-        comb: marks.comb,
+        mirrored,
+        flipped,
+        comb,
         shift,
     })
 }

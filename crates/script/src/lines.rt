@@ -1,11 +1,11 @@
 // Lines, by the word that begins them.
-ghost use Rattle.script.specs.Left.{left};
-ghost use Rattle.script.specs.Faults.{Reads, Takes};
-ghost use Rattle.script.specs.Calls.{line_means};
+ghost use Rattle.script.specs.Faults.{Reads, Makes};
+ghost use Rattle.script.specs.Calls.{line_means, call_means, refuses};
 ghost use Rattle.script.specs.Lines.{line_by, line};
 
 use crate::fault::{Fault, Unmade};
 use crate::fields::Fields;
+use crate::figures::Figure;
 use crate::figures::takes::take_figure;
 use crate::numbers::as_byte;
 use crate::script::Line;
@@ -13,44 +13,37 @@ use crate::words::Verb;
 use screen::Call;
 use std::alloc::Global;
 
-fn take_place(heap: Global, fields: &mut Fields<'_>) -> Result<Line, Fault>
-    ensures { Takes line_means (line_by Verb.Place (left fields.old)) (left fields.new) result }
-{
-    let at = fields.corner()?;
-    match take_figure(heap, fields) {
-        Ok(picture) => Ok(Line::Made(Call::Place(picture, at.x, at.y))),
-        Err(Unmade::Refused(refusal)) => Ok(Line::Refused(refusal)),
-        Err(Unmade::NotRead(fault)) => Err(fault),
-    }
-}
-
-fn take_line(heap: Global, verb: Verb, fields: &mut Fields<'_>) -> Result<Line, Fault>
-    ensures { Takes line_means (line_by verb (left fields.old)) (left fields.new) result }
+fn take_call(heap: Global, verb: Verb, fields: &mut Fields<'_>) -> Result<Call<Figure>, Unmade>
+    ensures { Makes call_means refuses (line_by verb) fields.old fields.new result }
 {
     match verb {
         Verb::Ink => {
             let gray = fields.take()?;
-            Ok(Line::Made(Call::Ink(as_byte(gray))))
+            Ok(Call::Ink(as_byte(gray)))
         }
         Verb::Dot => {
             let at = fields.corner()?;
-            Ok(Line::Made(Call::Dot(at.x, at.y)))
+            Ok(Call::Dot(at.x, at.y))
         }
         Verb::Bar => {
             let at = fields.corner()?;
             let size = fields.extent()?;
-            Ok(Line::Made(Call::Bar(at.x, at.y, size.width, size.height)))
+            Ok(Call::Bar(at.x, at.y, size.width, size.height))
         }
-        Verb::Place => take_place(heap, fields),
+        Verb::Place => {
+            let at = fields.corner()?;
+            let picture = take_figure(heap, fields)?;
+            Ok(Call::Place(picture, at.x, at.y))
+        }
         Verb::Narrow => {
             let at = fields.corner()?;
             let size = fields.extent()?;
-            Ok(Line::Made(Call::Narrow(at.x, at.y, size.width, size.height)))
+            Ok(Call::Narrow(at.x, at.y, size.width, size.height))
         }
-        Verb::End => Ok(Line::Made(Call::End)),
+        Verb::End => Ok(Call::End),
         Verb::Flush => {
             let grant = fields.take()?;
-            Ok(Line::Made(Call::Flush(grant)))
+            Ok(Call::Flush(grant))
         }
     }
 }
@@ -61,6 +54,9 @@ pub fn read_line(heap: Global, text: &[u8]) -> Result<Line, Fault>
 {
     let mut fields = Fields::of(text);
     let verb = fields.take()?;
-    let line = take_line(heap, verb, &mut fields)?;
-    fields.end(line)
+    match take_call(heap, verb, &mut fields) {
+        Ok(call) => fields.end(Line::Made(call)),
+        Err(Unmade::Refused(refusal)) => fields.end(Line::Refused(refusal)),
+        Err(Unmade::NotRead(fault)) => Err(fault),
+    }
 }

@@ -10,14 +10,13 @@ use crate::script::{Line, Script, Unread};
 use std::alloc::Global;
 
 // The lines from the third on.
-fn read_lines(heap: Global, text: Ahead<'_>) -> Result<Vec<Line>, Unread>
+fn read_lines(heap: Global, mut text: Ahead<'_>) -> Result<Vec<Line>, Unread>
     ensures { Answers lines_mean (calls_from 3 (ahead text.entry)) result }
 {
-    let mut ahead = text;
     let mut lines = Vec::new(heap);
-    while !ahead.ended() {
+    while !text.ended() {
         let number = 3 + lines.len() as u32;
-        let line = ahead.next().ok_or(Unread::BadLine(number))?;
+        let line = text.next().ok_or(Unread::BadLine(number))?;
         let line = read_line(heap, line).map_err(|fault| fault.at(number))?;
         lines.push(line)?;
     }

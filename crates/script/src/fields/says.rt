@@ -4,7 +4,6 @@ ghost use Rattle.script.specs.Words.{word};
 ghost use Rattle.script.specs.Readings.{field, corner, extent, part};
 ghost use Rattle.script.specs.Faults.{Takes};
 ghost use Rattle.script.specs.Hex.{bytes_of_hex};
-ghost use Rattle.script.specs.Left.{left};
 
 use super::Fields;
 use crate::fault::Fault;
@@ -16,7 +15,7 @@ use std::alloc::Global;
 impl<'a> Fields<'a> {
     // What the next field says.
     pub fn take<T: Field>(&mut self) -> Result<T, Fault>
-        ensures { Takes (λ x. x) (field T.says (left self.old)) (left self.new) result }
+        ensures { Takes (λ x. x) (field T.says) self.old self.new result }
     {
         let field = self.next().ok_or(Fault::Unreadable)?;
         T::read(field).ok_or(Fault::Unreadable)
@@ -24,7 +23,7 @@ impl<'a> Fields<'a> {
 
     // One word, and no other.
     pub fn word(&mut self, name: &[u8]) -> Result<(), Fault>
-        ensures { Takes (λ x. x) (field (word name.now) (left self.old)) (left self.new) result }
+        ensures { Takes (λ x. x) (field (word name.now)) self.old self.new result }
     {
         match self.next() {
             Some(field) if name == field => Ok(()),
@@ -33,7 +32,7 @@ impl<'a> Fields<'a> {
     }
 
     pub fn corner(&mut self) -> Result<Corner, Fault>
-        ensures { Takes (λ x. x) (corner (left self.old)) (left self.new) result }
+        ensures { Takes (λ x. x) corner self.old self.new result }
     {
         let x = self.take()?;
         let y = self.take()?;
@@ -41,7 +40,7 @@ impl<'a> Fields<'a> {
     }
 
     pub fn extent(&mut self) -> Result<Extent, Fault>
-        ensures { Takes (λ x. x) (extent (left self.old)) (left self.new) result }
+        ensures { Takes (λ x. x) extent self.old self.new result }
     {
         let width = self.take()?;
         let height = self.take()?;
@@ -49,7 +48,7 @@ impl<'a> Fields<'a> {
     }
 
     pub fn part(&mut self) -> Result<Part, Fault>
-        ensures { Takes (λ x. x) (part (left self.old)) (left self.new) result }
+        ensures { Takes (λ x. x) part self.old self.new result }
     {
         let left = self.take()?;
         let top = self.take()?;
@@ -58,7 +57,7 @@ impl<'a> Fields<'a> {
     }
 
     pub fn bytes(&mut self, heap: Global) -> Result<Vec<u8>, Fault>
-        ensures { Takes vec_items (field bytes_of_hex (left self.old)) (left self.new) result }
+        ensures { Takes vec_items (field bytes_of_hex) self.old self.new result }
     {
         hex_bytes(heap, self.next().ok_or(Fault::Unreadable)?)
     }

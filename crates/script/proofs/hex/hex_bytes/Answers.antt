@@ -9,7 +9,7 @@ pub returns-in_err-ok_or : goal.returns-in_err-ok_or
 returns-in_err-ok_or c =
     let rest = c.loop-rest.rest.now in
     let nothing : c.octet.result ≡ None = grind arith in
-    let stops : bytes_of_hex c.args.field.now ≡ None = c.loop-rest.invariant ∙ pair_stops (vec_items c.loop-rest.bytes) rest (omega arith) (sym c.octet.ensures ∙ nothing) in
+    let stops : bytes_of_hex c.args.field.now ≡ None = c.loop-rest.invariant ∙ pair_stops (vec_items c.loop-rest.bytes) rest (omega arith) (sym c.octet.ensures.value ∙ nothing) in
     search rules
 
 pub loop-rest-preserved : goal.loop-rest-preserved
@@ -19,7 +19,7 @@ loop-rest-preserved c =
     let byte = c.in_ok-ok_or.field-0 in
     let is : c.octet.result ≡ Some byte = grind arith in
     let more : vec_items c.push.new.self ≡ old ++ byte ∷ [] = search rules in
-    c.loop-rest.invariant ∙ pair_on old byte rest (omega arith) (sym c.octet.ensures ∙ is)
+    c.loop-rest.invariant ∙ pair_on old byte rest (omega arith) (sym c.octet.ensures.value ∙ is)
     ∙ ap (λ v. bytes_and v (bytes_of_hex (drop 2 rest))) (sym more)
     ∙ ap (λ s. bytes_and (vec_items c.push.new.self) (bytes_of_hex s)) (sym (take_rest rest 2))
 

@@ -11,37 +11,37 @@ use Rattle.script.proofs.reads.read_lines.Goals as goal
 
 pub returns-in_err-line : goal.returns-in_err-line
 returns-in_err-line c =
-    let here = ahead c.loop-ahead.ahead in
-    let n = 3 + vec_len c.loop-ahead.lines in
+    let here = ahead c.loop-text.text in
+    let n = 3 + vec_len c.loop-text.lines in
     let on : ended here ≡ false = search rules in
     let none : next_line here ≡ None = search rules in
-    let stops : calls_from 3 (ahead c.args.text) ≡ Err n = c.loop-ahead.invariant.0 ∙ no_line_stops (lines_mean c.loop-ahead.lines) n here on none in
+    let stops : calls_from 3 (ahead c.args.text) ≡ Err n = c.loop-text.invariant.0 ∙ no_line_stops (lines_mean c.loop-text.lines) n here on none in
     search rules
 
 pub returns-in_err-line-2 : goal.returns-in_err-line-2
 returns-in_err-line-2 c =
-    let before = lines_mean c.loop-ahead.lines in
-    let n = 3 + vec_len c.loop-ahead.lines in
+    let before = lines_mean c.loop-text.lines in
+    let n = 3 + vec_len c.loop-text.lines in
     let bytes = c.in_ok-line.line.now in
     let more = ahead c.next.new.self in
-    let next : ahead c.loop-ahead.ahead ≡ a_line bytes more = search rules in
+    let next : ahead c.loop-text.text ≡ a_line bytes more = search rules in
     let stops : line bytes ≡ None → calls_from 3 (ahead c.args.text) ≡ Err n =
-    λ nothing. c.loop-ahead.invariant.0 ∙ ap (λ ls. after before (calls_from n ls)) next ∙ line_stops before n bytes more nothing in
+    λ nothing. c.loop-text.invariant.0 ∙ ap (λ ls. after before (calls_from n ls)) next ∙ line_stops before n bytes more nothing in
     search rules
 
-pub loop-ahead-preserved : goal.loop-ahead-preserved
-loop-ahead-preserved c =
-    let before = vec_items c.loop-ahead.lines in
-    let n = 3 + vec_len c.loop-ahead.lines in
+pub loop-text-preserved : goal.loop-text-preserved
+loop-text-preserved c =
+    let before = vec_items c.loop-text.lines in
+    let n = 3 + vec_len c.loop-text.lines in
     let bytes = c.in_ok-line.line.now in
     let more = ahead c.next.new.self in
     let read = c.in_ok-line-2.line in
-    let next : ahead c.loop-ahead.ahead ≡ a_line bytes more = search rules in
+    let next : ahead c.loop-text.text ≡ a_line bytes more = search rules in
     let says : line bytes ≡ Some (line_means read) = search rules in
     let pushed : vec_items c.push.new.self ≡ before ++ read ∷ [] = search rules in
-    let shorter : length c.next.new.self.rest.now < length c.loop-ahead.ahead.rest.now = search rules in
+    let shorter : length c.next.new.self.rest.now < length c.loop-text.text.rest.now = search rules in
     let count : n + 1 ≡ 3 + vec_len c.push.new.self = omega (arith, c.in_ok-push.ensures.len) in (
-      c.loop-ahead.invariant.0 ∙ ap (λ ls. after (map line_means before) (calls_from n ls)) next
+      c.loop-text.invariant.0 ∙ ap (λ ls. after (map line_means before) (calls_from n ls)) next
           ∙ line_on (map line_means before) n bytes more (line_means read) says
           ∙ ap (λ ms. after ms (calls_from (n + 1) more)) (sym (ap (map line_means) pushed ∙ map_push line_means before read))
           ∙ ap (λ k. after (lines_mean c.push.new.self) (calls_from k more)) count,
@@ -50,6 +50,6 @@ loop-ahead-preserved c =
 
 pub returns : goal.returns
 returns c =
-    let here = ahead c.loop-ahead.ahead in
+    let here = ahead c.loop-text.text in
     let end : ended here ≡ true = search rules in
-    c.loop-ahead.invariant.0 ∙ lines_end (lines_mean c.loop-ahead.lines) (3 + vec_len c.loop-ahead.lines) here end
+    c.loop-text.invariant.0 ∙ lines_end (lines_mean c.loop-text.lines) (3 + vec_len c.loop-text.lines) here end

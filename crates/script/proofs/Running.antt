@@ -1,12 +1,11 @@
 -- A script read line by line.
 use Rattle.std.proofs.Common.{◌≡◌, ℕ, ◌+◌, true, false, List, [], ◌∷◌, ◌++◌, Some, None, Ok, Err, Result, sym, refl, ap, ◌∙◌, arith}
 use Rattle.std.proofs.lemmas.List.{append_assoc, append-nil}
-use Rattle.script.specs.declared.script.Card.{Card}
 use Rattle.script.specs.Parts.{Lines, no_more, unended, a_line}
 use Rattle.script.specs.Ahead.{next_line, ended}
 use Rattle.script.specs.Calls.{LineMeaning}
 use Rattle.script.specs.Lines.{line}
-use Rattle.script.specs.Scripts.{numbered, and_then, calls_from, after_card}
+use Rattle.script.specs.Scripts.{numbered, and_then, calls_from}
 
 -- lines that are read, and what follows them
 abbrev pub after : List LineMeaning → Result (List LineMeaning) ℕ → Result (List LineMeaning) ℕ

@@ -32,6 +32,7 @@ impl Field for u32 {
 impl Field for i32 {
     ghost says = { signed };
 
+    #[tactic(auto, using(crate::proofs::Decimals::signed_minus, crate::proofs::Decimals::signed_plain))]
     fn read(field: &[u8]) -> Option<i32> {
         match field.strip_prefix(b"-") {
             Some(digits) => i32::try_from(-i64::from(u32::read(digits)?)).ok(),

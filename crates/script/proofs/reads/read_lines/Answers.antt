@@ -1,33 +1,13 @@
-use Rattle.std.proofs.Common.{◌≡◌, ◌+◌, ◌<◌, length, true, false, [], ◌∷◌, ◌++◌, map, Some, None, Ok, Err, vec_items, vec_len, sym, ap, ◌∙◌, arith, rules}
+use Rattle.std.proofs.Common.{◌≡◌, ◌+◌, ◌<◌, length, [], ◌∷◌, ◌++◌, map, Some, vec_items, vec_len, sym, ap, ◌∙◌, arith, rules}
 use Rattle.std.proofs.lemmas.List.{map_push}
 use Rattle.script.specs.Parts.{a_line}
-use Rattle.script.specs.Ahead.{ahead, ended, next_line}
+use Rattle.script.specs.Ahead.{ahead}
 use Rattle.script.specs.Calls.{line_means}
 use Rattle.script.specs.Lines.{line}
 use Rattle.script.specs.Scripts.{calls_from}
 use Rattle.script.specs.Whole.{lines_mean}
-use Rattle.script.proofs.Running.{after, line_on, line_stops, no_line_stops, lines_end}
+use Rattle.script.proofs.Running.{after, line_on}
 use Rattle.script.proofs.reads.read_lines.Goals as goal
-
-pub returns-in_err-line : goal.returns-in_err-line
-returns-in_err-line c =
-    let here = ahead c.loop-text.text in
-    let n = 3 + vec_len c.loop-text.lines in
-    let on : ended here ≡ false = search rules in
-    let none : next_line here ≡ None = search rules in
-    let stops : calls_from 3 (ahead c.args.text) ≡ Err n = c.loop-text.invariant.0 ∙ no_line_stops (lines_mean c.loop-text.lines) n here on none in
-    search rules
-
-pub returns-in_err-line-2 : goal.returns-in_err-line-2
-returns-in_err-line-2 c =
-    let before = lines_mean c.loop-text.lines in
-    let n = 3 + vec_len c.loop-text.lines in
-    let bytes = c.in_ok-line.line.now in
-    let more = ahead c.next.new.self in
-    let next : ahead c.loop-text.text ≡ a_line bytes more = search rules in
-    let stops : line bytes ≡ None → calls_from 3 (ahead c.args.text) ≡ Err n =
-    λ nothing. c.loop-text.invariant.0 ∙ ap (λ ls. after before (calls_from n ls)) next ∙ line_stops before n bytes more nothing in
-    search rules
 
 pub loop-text-preserved : goal.loop-text-preserved
 loop-text-preserved c =
@@ -47,9 +27,3 @@ loop-text-preserved c =
           ∙ ap (λ k. after (lines_mean c.push.new.self) (calls_from k more)) count,
       omega (arith, c.in_ok-push.ensures.len),
     )
-
-pub returns : goal.returns
-returns c =
-    let here = ahead c.loop-text.text in
-    let end : ended here ≡ true = search rules in
-    c.loop-text.invariant.0 ∙ lines_end (lines_mean c.loop-text.lines) (3 + vec_len c.loop-text.lines) here end

@@ -22,15 +22,15 @@ Reads means said (Err NoMemory) = Unit {0}
 abbrev pub Takes : {A B : Type 0} → (A → B) → (List (List ℕ) → Said B) → Fields → Fields → Result A Fault → Type 0
 Takes means reading before after r = Reads (λ a. (means a, left after)) (reading (left before)) r
 
--- the same where a picture that is refused may stand, which is said too
-abbrev pub MakesOf : {A B : Type 0} → (A → B) → (Refusal → B) → Said B → List (List ℕ) → Result A Unmade → Type 0
-MakesOf means refused said left (Ok a) = said ≡ Some (means a, left)
-MakesOf means refused said left (Err (Refused why)) = said ≡ Some (refused why, left)
-MakesOf means refused said left (Err (NotRead Unreadable)) = said ≡ None
-MakesOf means refused said left (Err (NotRead NoMemory)) = Unit {0}
+-- the same where a picture may stand, whose refusal is said too
+abbrev pub ReadsOrRefuses : {A B : Type 0} → (A → B) → (Refusal → B) → Said B → List (List ℕ) → Result A Unmade → Type 0
+ReadsOrRefuses means refused said left (Ok a) = said ≡ Some (means a, left)
+ReadsOrRefuses means refused said left (Err (Refused why)) = said ≡ Some (refused why, left)
+ReadsOrRefuses means refused said left (Err (NotRead Unreadable)) = said ≡ None
+ReadsOrRefuses means refused said left (Err (NotRead NoMemory)) = Unit {0}
 
-abbrev pub Makes : {A B : Type 0} → (A → B) → (Refusal → B) → (List (List ℕ) → Said B) → Fields → Fields → Result A Unmade → Type 0
-Makes means refused reading before after r = MakesOf means refused (reading (left before)) (left after) r
+abbrev pub TakesOrRefuses : {A B : Type 0} → (A → B) → (Refusal → B) → (List (List ℕ) → Said B) → Fields → Fields → Result A Unmade → Type 0
+TakesOrRefuses means refused reading before after r = ReadsOrRefuses means refused (reading (left before)) (left after) r
 
 -- at the line of this number
 abbrev pub at_line : ℕ → Fault → Unread

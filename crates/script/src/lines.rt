@@ -1,5 +1,5 @@
 // Lines, by the word that begins them.
-ghost use Rattle.script.specs.Faults.{Reads, Makes};
+ghost use Rattle.script.specs.Faults.{Reads, TakesOrRefuses};
 ghost use Rattle.script.specs.Calls.{line_means, call_means, refuses};
 ghost use Rattle.script.specs.Lines.{line_by, line};
 
@@ -14,7 +14,7 @@ use screen::Call;
 use std::alloc::Global;
 
 fn take_call(heap: Global, verb: Verb, fields: &mut Fields<'_>) -> Result<Call<Figure>, Unmade>
-    ensures { Makes call_means refuses (line_by verb) fields.old fields.new result }
+    ensures { TakesOrRefuses call_means refuses (line_by verb) fields.old fields.new result }
 {
     match verb {
         Verb::Ink => {
@@ -35,6 +35,7 @@ fn take_call(heap: Global, verb: Verb, fields: &mut Fields<'_>) -> Result<Call<F
             let picture = take_figure(heap, fields)?;
             Ok(Call::Place(picture, at.x, at.y))
         }
+        // read as a bar is; one function for both would be longer than these two lines
         Verb::Narrow => {
             let at = fields.corner()?;
             let size = fields.extent()?;

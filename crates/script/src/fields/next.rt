@@ -1,9 +1,7 @@
 // The fields of a line, one by one.
-ghost use Rattle.std.specs.Prelude.{◌≡◌, [], ◌∷◌, MatchOption};
+ghost use Rattle.std.specs.Prelude.{◌≡◌, [], ◌∷◌, MatchOption, MatchResult};
 ghost use Rattle.script.specs.Parts.{fields};
-ghost use Rattle.script.specs.Readings.{nothing_left};
-ghost use Rattle.script.specs.Faults.{Reads};
-ghost use Rattle.script.specs.Left.{left};
+ghost use Rattle.script.specs.Left.{left, GoesOn};
 
 use super::Fields;
 use crate::cuts::cut;
@@ -36,7 +34,8 @@ impl<'a> Fields<'a> {
 
     // What was said, if no field is left.
     pub fn end<T: Drop>(&mut self, said: T) -> Result<T, Fault>
-        ensures { Reads (λ x. x) (nothing_left said (left self.old)) result }
+        ensures { MatchResult result (λ told. (told ≡ said) × (left self.old ≡ []))
+            (λ fault. (fault ≡ Fault.Unreadable) × GoesOn (left self.old)) }
     {
         match self.next() {
             None => Ok(said),

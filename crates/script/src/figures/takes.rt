@@ -1,7 +1,7 @@
 // Pictures, as the fields of a line say them.
 ghost use Rattle.script.specs.Figures.{bits, grays, base, shade, figure_by, figure};
 ghost use Rattle.script.specs.Meanings.{base_kind, shade_kind, figure_kind, made};
-ghost use Rattle.script.specs.Faults.{Makes};
+ghost use Rattle.script.specs.Faults.{TakesOrRefuses};
 
 use super::{Base, Figure, Shade};
 use crate::fault::{Fault, Unmade};
@@ -12,7 +12,7 @@ use picture::{BitPicture, Crop, Either, GrayPicture, Inverse};
 use std::alloc::Global;
 
 fn take_bits(heap: Global, fields: &mut Fields<'_>) -> Result<Base, Unmade>
-    ensures { Makes (made base_kind) Err bits fields.old fields.new result }
+    ensures { TakesOrRefuses (made base_kind) Err bits fields.old fields.new result }
 {
     let size = fields.extent()?;
     let gray = as_byte(fields.take()?);
@@ -22,7 +22,7 @@ fn take_bits(heap: Global, fields: &mut Fields<'_>) -> Result<Base, Unmade>
 }
 
 fn take_grays(heap: Global, fields: &mut Fields<'_>) -> Result<Base, Unmade>
-    ensures { Makes (made base_kind) Err grays fields.old fields.new result }
+    ensures { TakesOrRefuses (made base_kind) Err grays fields.old fields.new result }
 {
     let size = fields.extent()?;
     let bytes = fields.bytes(heap)?;
@@ -32,7 +32,7 @@ fn take_grays(heap: Global, fields: &mut Fields<'_>) -> Result<Base, Unmade>
 
 // Dots, by the word that came before them.
 fn take_base(heap: Global, kind: Kind, fields: &mut Fields<'_>) -> Result<Base, Unmade>
-    ensures { Makes (made base_kind) Err (base kind) fields.old fields.new result }
+    ensures { TakesOrRefuses (made base_kind) Err (base kind) fields.old fields.new result }
 {
     match kind {
         Kind::Bits => take_bits(heap, fields),
@@ -42,7 +42,7 @@ fn take_base(heap: Global, kind: Kind, fields: &mut Fields<'_>) -> Result<Base, 
 }
 
 fn take_inverse(heap: Global, fields: &mut Fields<'_>) -> Result<Shade, Unmade>
-    ensures { Makes (made shade_kind) Err (shade Kind.Inverse) fields.old fields.new result }
+    ensures { TakesOrRefuses (made shade_kind) Err (shade Kind.Inverse) fields.old fields.new result }
 {
     let kind = fields.take()?;
     let base = take_base(heap, kind, fields)?;
@@ -51,7 +51,7 @@ fn take_inverse(heap: Global, fields: &mut Fields<'_>) -> Result<Shade, Unmade>
 
 // Dots or their inverse, by the word that came before them.
 fn take_shade(heap: Global, kind: Kind, fields: &mut Fields<'_>) -> Result<Shade, Unmade>
-    ensures { Makes (made shade_kind) Err (shade kind) fields.old fields.new result }
+    ensures { TakesOrRefuses (made shade_kind) Err (shade kind) fields.old fields.new result }
 {
     match kind {
         Kind::Inverse => take_inverse(heap, fields),
@@ -61,7 +61,7 @@ fn take_shade(heap: Global, kind: Kind, fields: &mut Fields<'_>) -> Result<Shade
 }
 
 fn take_crop(heap: Global, fields: &mut Fields<'_>) -> Result<Figure, Unmade>
-    ensures { Makes (made figure_kind) Err (figure_by Kind.Crop) fields.old fields.new result }
+    ensures { TakesOrRefuses (made figure_kind) Err (figure_by Kind.Crop) fields.old fields.new result }
 {
     let part = fields.part()?;
     let kind = fields.take()?;
@@ -73,7 +73,7 @@ fn take_crop(heap: Global, fields: &mut Fields<'_>) -> Result<Figure, Unmade>
 
 // A picture, which a word begins.
 pub fn take_figure(heap: Global, fields: &mut Fields<'_>) -> Result<Figure, Unmade>
-    ensures { Makes (made figure_kind) Err figure fields.old fields.new result }
+    ensures { TakesOrRefuses (made figure_kind) Err figure fields.old fields.new result }
 {
     match fields.take()? {
         Kind::Crop => take_crop(heap, fields),

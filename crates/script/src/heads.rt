@@ -14,8 +14,8 @@ fn take_card(fields: &mut Fields<'_>) -> Result<Card, Fault>
         mirrored,
         flipped,
         comb,
-    } = fields.take()?;
-    let shift = fields.take()?;
+    } = fields.read()?;
+    let shift = fields.read()?;
     Ok(Card {
         mirrored,
         flipped,
@@ -40,6 +40,6 @@ pub fn read_buffer(text: &[u8]) -> Result<u32, Fault>
 {
     let mut fields = Fields::of(text);
     fields.word(b"buffer")?;
-    let bytes = fields.take()?;
+    let bytes = fields.read()?;
     fields.end(bytes)
 }

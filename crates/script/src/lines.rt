@@ -18,7 +18,7 @@ fn take_call(heap: Global, verb: Verb, fields: &mut Fields<'_>) -> Result<Call<F
 {
     match verb {
         Verb::Ink => {
-            let gray = fields.take()?;
+            let gray = fields.read()?;
             Ok(Call::Ink(as_byte(gray)))
         }
         Verb::Dot => {
@@ -43,7 +43,7 @@ fn take_call(heap: Global, verb: Verb, fields: &mut Fields<'_>) -> Result<Call<F
         }
         Verb::End => Ok(Call::End),
         Verb::Flush => {
-            let grant = fields.take()?;
+            let grant = fields.read()?;
             Ok(Call::Flush(grant))
         }
     }
@@ -54,7 +54,7 @@ pub fn read_line(heap: Global, text: &[u8]) -> Result<Line, Fault>
     ensures { Reads line_means (line text.now) result }
 {
     let mut fields = Fields::of(text);
-    let verb = fields.take()?;
+    let verb = fields.read()?;
     match take_call(heap, verb, &mut fields) {
         Ok(call) => fields.end(Line::Made(call)),
         Err(Unmade::Refused(refusal)) => fields.end(Line::Refused(refusal)),

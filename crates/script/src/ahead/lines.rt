@@ -1,5 +1,6 @@
 // The lines of a text, one by one.
-ghost use Rattle.std.specs.Prelude.{◌≡◌, ◌<◌, length, None, MatchOption, OnSome};
+ghost use Rattle.std.specs.Prelude.{◌≡◌, length, None, MatchOption};
+ghost use Rattle.std.specs.Iterator.{at_most};
 ghost use Rattle.script.specs.Parts.{a_line, lines};
 ghost use Rattle.script.specs.Ahead.{ahead, next_line, ended};
 
@@ -27,12 +28,18 @@ impl<'a> Ahead<'a> {
         self.whole && self.rest.is_empty()
     }
 
-    // The next line, without its newline; none where no newline comes.
+}
+
+// The lines, each without its newline; none where no newline comes.
+impl<'a> Iterator for Ahead<'a> {
+    type Item = &'a [u8];
+
+    ghost next_gives = { λ before line after. MatchOption line (next_line (ahead before) ≡ None) (λ l. ahead before ≡ a_line l.now (ahead after)) };
+
+    ghost remaining = { λ text. at_most (length text.rest.now) };
+
     #[tactic(auto, using(crate::proofs::Walking::line_then, crate::proofs::Walking::last_part), unfolding(crate::specs::Ahead::ahead))]
-    pub fn next(&mut self) -> Option<&'a [u8]>
-        ensures line { MatchOption result (next_line (ahead self.old) ≡ None) (λ s. ahead self.old ≡ a_line s.now (ahead self.new)) }
-        ensures shorter { OnSome result (length self.new.rest.now < length self.old.rest.now) }
-    {
+    fn next(&mut self) -> Option<&'a [u8]> {
         let (line, after) = cut(self.rest, b'\n')?;
         self.rest = after;
         Some(line)

@@ -15,10 +15,25 @@ impl<'a> Fields<'a> {
         Fields { rest: Some(line) }
     }
 
-    #[tactic(auto, unfolding(crate::specs::Left::left))]
-    pub fn next(&mut self) -> Option<&'a [u8]>
-        ensures { MatchOption result (left self.old ≡ []) (λ f. left self.old ≡ f.now ∷ left self.new) }
+    // What was said, if no field is left.
+    pub fn end<T: Drop>(&mut self, said: T) -> Result<T, Fault>
+        ensures { MatchResult result (λ told. (told ≡ said) × (left self.old ≡ []))
+            (λ fault. (fault ≡ Fault.Unreadable) × GoesOn (left self.old)) }
     {
+        match self.next() {
+            None => Ok(said),
+            Some(_) => Err(Fault::Unreadable),
+        }
+    }
+}
+
+impl<'a> Iterator for Fields<'a> {
+    type Item = &'a [u8];
+
+    ghost next_gives = { λ before field after. MatchOption field (left before ≡ []) (λ f. left before ≡ f.now ∷ left after) };
+
+    #[tactic(auto, unfolding(crate::specs::Left::left))]
+    fn next(&mut self) -> Option<&'a [u8]> {
         let text = self.rest?;
         match cut(text, b'\t') {
             Some((field, after)) => {
@@ -29,17 +44,6 @@ impl<'a> Fields<'a> {
                 self.rest = None;
                 Some(text)
             }
-        }
-    }
-
-    // What was said, if no field is left.
-    pub fn end<T: Drop>(&mut self, said: T) -> Result<T, Fault>
-        ensures { MatchResult result (λ told. (told ≡ said) × (left self.old ≡ []))
-            (λ fault. (fault ≡ Fault.Unreadable) × GoesOn (left self.old)) }
-    {
-        match self.next() {
-            None => Ok(said),
-            Some(_) => Err(Fault::Unreadable),
         }
     }
 }

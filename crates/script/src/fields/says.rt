@@ -14,7 +14,7 @@ use std::alloc::Global;
 
 impl<'a> Fields<'a> {
     // What the next field says.
-    pub fn take<T: Field>(&mut self) -> Result<T, Fault>
+    pub fn read<T: Field>(&mut self) -> Result<T, Fault>
         ensures { Takes (λ x. x) (field T.says) self.old self.new result }
     {
         let field = self.next().ok_or(Fault::Unreadable)?;
@@ -34,24 +34,24 @@ impl<'a> Fields<'a> {
     pub fn corner(&mut self) -> Result<Corner, Fault>
         ensures { Takes (λ x. x) corner self.old self.new result }
     {
-        let x = self.take()?;
-        let y = self.take()?;
+        let x = self.read()?;
+        let y = self.read()?;
         Ok(Corner { x, y })
     }
 
     pub fn extent(&mut self) -> Result<Extent, Fault>
         ensures { Takes (λ x. x) extent self.old self.new result }
     {
-        let width = self.take()?;
-        let height = self.take()?;
+        let width = self.read()?;
+        let height = self.read()?;
         Ok(Extent { width, height })
     }
 
     pub fn part(&mut self) -> Result<Part, Fault>
         ensures { Takes (λ x. x) part self.old self.new result }
     {
-        let left = self.take()?;
-        let top = self.take()?;
+        let left = self.read()?;
+        let top = self.read()?;
         let size = self.extent()?;
         Ok(Part { left, top, size })
     }

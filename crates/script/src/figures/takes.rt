@@ -15,7 +15,7 @@ fn take_bits(heap: Global, fields: &mut Fields<'_>) -> Result<Base, Unmade>
     ensures { TakesOrRefuses (made base_kind) Err bits fields.old fields.new result }
 {
     let size = fields.extent()?;
-    let gray = as_byte(fields.take()?);
+    let gray = as_byte(fields.read()?);
     let bytes = fields.bytes(heap)?;
     let picture = BitPicture::new(bytes, size.width, size.height, gray)?;
     Ok(Either::First(picture))
@@ -44,7 +44,7 @@ fn take_base(heap: Global, kind: Kind, fields: &mut Fields<'_>) -> Result<Base, 
 fn take_inverse(heap: Global, fields: &mut Fields<'_>) -> Result<Shade, Unmade>
     ensures { TakesOrRefuses (made shade_kind) Err (shade Kind.Inverse) fields.old fields.new result }
 {
-    let kind = fields.take()?;
+    let kind = fields.read()?;
     let base = take_base(heap, kind, fields)?;
     Ok(Either::Second(Inverse::new(base)))
 }
@@ -64,7 +64,7 @@ fn take_crop(heap: Global, fields: &mut Fields<'_>) -> Result<Figure, Unmade>
     ensures { TakesOrRefuses (made figure_kind) Err (figure_by Kind.Crop) fields.old fields.new result }
 {
     let part = fields.part()?;
-    let kind = fields.take()?;
+    let kind = fields.read()?;
     let shade = take_shade(heap, kind, fields)?;
     let size = part.size;
     let crop = Crop::new(shade, part.left, part.top, size.width, size.height)?;
@@ -75,7 +75,7 @@ fn take_crop(heap: Global, fields: &mut Fields<'_>) -> Result<Figure, Unmade>
 pub fn take_figure(heap: Global, fields: &mut Fields<'_>) -> Result<Figure, Unmade>
     ensures { TakesOrRefuses (made figure_kind) Err figure fields.old fields.new result }
 {
-    match fields.take()? {
+    match fields.read()? {
         Kind::Crop => take_crop(heap, fields),
         kind => Ok(Either::First(take_shade(heap, kind, fields)?)),
     }

@@ -1,5 +1,6 @@
 // The fields of a line, one by one.
-ghost use Rattle.std.specs.Prelude.{◌≡◌, [], ◌∷◌, MatchOption, MatchResult};
+ghost use Rattle.std.specs.Prelude.{◌≡◌, [], MatchResult};
+ghost use Rattle.std.specs.Iterator.{YieldsFirstRef, item_count};
 ghost use Rattle.script.specs.Parts.{fields};
 ghost use Rattle.script.specs.Left.{left, GoesOn};
 
@@ -30,7 +31,9 @@ impl<'a> Fields<'a> {
 impl<'a> Iterator for Fields<'a> {
     type Item = &'a [u8];
 
-    ghost next_gives = { λ before field after. MatchOption field (left before ≡ []) (λ f. left before ≡ f.now ∷ left after) };
+    ghost next_gives = { YieldsFirstRef left };
+
+    ghost remaining = { item_count left };
 
     #[tactic(auto, unfolding(crate::specs::Left::left))]
     fn next(&mut self) -> Option<&'a [u8]> {

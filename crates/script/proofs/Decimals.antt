@@ -1,9 +1,10 @@
 -- Numbers read digit by digit.
-use Rattle.std.proofs.Common.{◌≡◌, ℕ, ◌+◌, ◌-◌, ◌*◌, ◌^◌, ◌<◌, ◌≤◌, true, false, ◌&&◌, eqb, ltb, List, [], ◌∷◌, length, take, drop, Some, None, Option, sym, refl, ap, arith}
+use Rattle.std.proofs.Common.{◌≡◌, ℕ, ◌+◌, ◌-◌, ◌*◌, ◌^◌, ◌<◌, ◌≤◌, true, false, ◌&&◌, eqb, ltb, List, [], ◌∷◌, length, get_or, take, drop, Some, None, Option, sym, refl, ap, ◌∙◌, arith}
 use Rattle.std.proofs.lemmas.Bool.Decides.{nat_tests}
+use Rattle.std.proofs.lemmas.List.{at_drop_more, at_drop_all}
 use Rattle.std.proofs.lemmas.Bool.{false≢true}
 use Rattle.std.specs.Cmp.Lexicographic.{pointwise}
-use Rattle.script.specs.Numbers.{is_digit, number_on, fitting, unsigned, positive, negative, signed}
+use Rattle.script.specs.Numbers.{passing, is_digit, number_on, fitting, unsigned, positive, negative, signed}
 
 -- A number never falls as it goes on.
 grows : (n m : ℕ) (cs : List ℕ) → number_on n cs ≡ Some m → n ≤ m
@@ -18,20 +19,43 @@ none_fits : (o : Option ℕ) → ((m : ℕ) → o ≡ Some m → 2 ^ 32 ≤ m) �
 none_fits None large = refl
 none_fits (Some m) large = let l = large m refl in grind (arith, nat_tests)
 
--- One digit more, that fits.
-pub digit_on : (n c : ℕ) (cs : List ℕ) → (is_digit c && ltb (10 * n + (c - 48)) (2 ^ 32)) ≡ true
+-- One digit more, that fits: the number goes on with those after it.
+digit_on : (n c : ℕ) (cs : List ℕ) → (is_digit c && ltb (10 * n + (c - 48)) (2 ^ 32)) ≡ true
     → number_on n (c ∷ cs) ≡ number_on (10 * n + (c - 48)) cs
 unfolding number_on
 digit_on n c cs e = grind (arith, nat_tests)
 
+pub number_goes_on : (cs : List ℕ) (i n m : ℕ) → i < length cs
+    → Some m ≡ passing (is_digit (get_or cs i 0) && ltb (10 * n + (get_or cs i 0 - 48)) (2 ^ 32)) (10 * n + (get_or cs i 0 - 48))
+    → number_on n (drop i cs) ≡ number_on m (drop (i + 1) cs)
+number_goes_on cs i n m l e =
+    let d = get_or cs i 0 in
+    let goes : (is_digit d && ltb (10 * n + (d - 48)) (2 ^ 32)) ≡ true = grind (arith, nat_tests) in
+    let is : 10 * n + (d - 48) ≡ m = grind (arith, nat_tests) in
+    at_drop_more (number_on n) cs i 0 l ∙ digit_on n d (drop (i + 1) cs) goes ∙ ap (λ k. number_on k (drop (i + 1) cs)) is
+
 -- A byte that is no digit, or a digit that makes the number too large: nothing after it mends that.
-pub digit_stops : (n c : ℕ) (cs : List ℕ) → (is_digit c && ltb (10 * n + (c - 48)) (2 ^ 32)) ≡ false
-    → fitting (number_on n (c ∷ cs)) ≡ None
+digit_stops : (n c : ℕ) (cs : List ℕ) → (is_digit c && ltb (10 * n + (c - 48)) (2 ^ 32)) ≡ false → fitting (number_on n (c ∷ cs)) ≡ None
 unfolding number_on
 digit_stops n c cs e =
     let next = 10 * n + (c - 48) in
     let large : 2 ^ 32 ≤ next → fitting (number_on next cs) ≡ None = λ l. none_fits (number_on next cs) (λ m h. omega (arith, grows next m cs h)) in
     grind (arith, nat_tests)
+
+pub number_stops : (cs : List ℕ) (i n : ℕ) → i < length cs
+    → None ≡ passing (is_digit (get_or cs i 0) && ltb (10 * n + (get_or cs i 0 - 48)) (2 ^ 32)) (10 * n + (get_or cs i 0 - 48))
+    → fitting (number_on n (drop i cs)) ≡ None
+number_stops cs i n l e =
+    let d = get_or cs i 0 in
+    let stops : (is_digit d && ltb (10 * n + (d - 48)) (2 ^ 32)) ≡ false = grind (arith, nat_tests) in
+    ap fitting (at_drop_more (number_on n) cs i 0 l) ∙ digit_stops n d (drop (i + 1) cs) stops
+
+-- Where no byte is left, the number is read.
+pub number_ends : (cs : List ℕ) (i n : ℕ) → length cs ≤ i → n < 2 ^ 32 → fitting (number_on n (drop i cs)) ≡ Some n
+unfolding number_on
+number_ends cs i n l small =
+    let fits : fitting (Some n) ≡ Some n = grind (arith, nat_tests) in
+    ap fitting (at_drop_all (number_on n) cs i l) ∙ fits
 
 -- A field without a byte is no number.
 pub unsigned_none : (cs : List ℕ) → length cs ≡ 0 → unsigned cs ≡ None

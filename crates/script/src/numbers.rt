@@ -16,6 +16,7 @@ fn with_digit(n: u32, c: u8) -> Option<u32>
 impl Field for u32 {
     ghost says = { unsigned };
 
+    #[tactic(auto, using(crate::proofs::Decimals::unsigned_none, crate::proofs::Decimals::unsigned_some, crate::proofs::Decimals::number_goes_on, crate::proofs::Decimals::number_stops, crate::proofs::Decimals::number_ends))]
     fn read(field: &[u8]) -> Option<u32> {
         if field.is_empty() {
             return None;

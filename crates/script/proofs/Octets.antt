@@ -1,6 +1,6 @@
 -- Bytes read two digits at a time.
-use Rattle.std.proofs.Common.{◌≡◌, ℕ, ◌≤◌, List, [], ◌∷◌, ◌++◌, length, get_or, drop, Some, None, Option, sym, refl, ap, ◌∙◌, arith}
-use Rattle.std.proofs.lemmas.List.{append_assoc, append-nil}
+use Rattle.std.proofs.Common.{◌≡◌, ℕ, ◌≤◌, List, [], ◌∷◌, ◌++◌, ◌-◌, length, get_or, take, drop, Some, None, Option, sym, refl, ap, ◌∙◌, arith}
+use Rattle.std.proofs.lemmas.List.{append_assoc, append-nil, take_rest}
 use Rattle.listing.specs.Octets.{octet}
 use Rattle.script.specs.Hex.{byte_and, bytes_of_hex}
 
@@ -15,12 +15,18 @@ byte_more xs b None = refl
 byte_more xs b (Some ys) = ap Some (sym (append_assoc xs (b ∷ []) ys))
 
 -- Two digits more.
-pub pair_on : (xs : List ℕ) (byte : ℕ) (rest : List ℕ) → 2 ≤ length rest → octet (get_or rest 0 0) (get_or rest 1 0) ≡ Some byte
+pair_on : (xs : List ℕ) (byte : ℕ) (rest : List ℕ) → 2 ≤ length rest → octet (get_or rest 0 0) (get_or rest 1 0) ≡ Some byte
     → bytes_and xs (bytes_of_hex rest) ≡ bytes_and (xs ++ byte ∷ []) (bytes_of_hex (drop 2 rest))
 unfolding bytes_of_hex
 pair_on xs byte [] l e = absurd (omega arith)
 pair_on xs byte (a ∷ []) l e = absurd (omega arith)
 pair_on xs byte (a ∷ b ∷ more) l e = ap (λ o. bytes_and xs (byte_and o (bytes_of_hex more))) e ∙ byte_more xs byte (bytes_of_hex more)
+
+pub pair_goes_on : (xs ys : List ℕ) (byte : ℕ) (rest : List ℕ) → 2 ≤ length rest → octet (get_or rest 0 0) (get_or rest 1 0) ≡ Some byte → ys ≡ xs ++ byte ∷ []
+    → bytes_and xs (bytes_of_hex rest) ≡ bytes_and ys (bytes_of_hex (take (length rest - 2) (drop 2 rest)))
+pair_goes_on xs ys byte rest l e more =
+    pair_on xs byte rest l e ∙ ap (λ v. bytes_and v (bytes_of_hex (drop 2 rest))) (sym more)
+    ∙ ap (λ s. bytes_and ys (bytes_of_hex s)) (sym (take_rest rest 2))
 
 -- Two that write no byte: nothing after them mends that.
 pub pair_stops : (xs rest : List ℕ) → 2 ≤ length rest → octet (get_or rest 0 0) (get_or rest 1 0) ≡ None → bytes_and xs (bytes_of_hex rest) ≡ None

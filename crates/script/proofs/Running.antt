@@ -1,9 +1,10 @@
 -- A script read line by line.
-use Rattle.std.proofs.Common.{◌≡◌, ℕ, ◌+◌, true, false, List, [], ◌∷◌, ◌++◌, Some, None, Ok, Err, Result, sym, refl, ap, ◌∙◌, arith}
-use Rattle.std.proofs.lemmas.List.{append_assoc, append-nil}
+use Rattle.std.proofs.Common.{◌≡◌, ℕ, ◌+◌, true, false, List, [], ◌∷◌, ◌++◌, map, Some, None, Ok, Err, Result, sym, refl, ap, ◌∙◌, arith}
+use Rattle.std.proofs.lemmas.List.{append_assoc, append-nil, map_push}
+use Rattle.script.specs.declared.script.Line.{Line}
 use Rattle.script.specs.Parts.{Lines, no_more, unended, a_line}
 use Rattle.script.specs.Ahead.{next_line, ended}
-use Rattle.script.specs.Calls.{LineMeaning}
+use Rattle.script.specs.Calls.{LineMeaning, line_means}
 use Rattle.script.specs.Lines.{line}
 use Rattle.script.specs.Scripts.{numbered, and_then, calls_from}
 
@@ -18,11 +19,18 @@ after_more ms m (Ok ns) = ap Ok (sym (append_assoc ms (m ∷ []) ns))
 after_more ms m (Err n) = refl
 
 -- One line more.
-pub line_on : (ms : List LineMeaning) (n : ℕ) (bytes : List ℕ) (more : Lines) (m : LineMeaning) → line bytes ≡ Some m
+line_on : (ms : List LineMeaning) (n : ℕ) (bytes : List ℕ) (more : Lines) (m : LineMeaning) → line bytes ≡ Some m
     → after ms (calls_from n (a_line bytes more)) ≡ after (ms ++ m ∷ []) (calls_from (n + 1) more)
 unfolding calls_from
 line_on ms n bytes more m e =
     ap (λ o. after ms (numbered n o (λ k. and_then k (calls_from (n + 1) more)))) e ∙ after_more ms m (calls_from (n + 1) more)
+
+pub line_goes_on : (read : List Line) (here : Line) (n k : ℕ) (bytes : List ℕ) (ls more : Lines) → ls ≡ a_line bytes more → line bytes ≡ Some (line_means here)
+    → k ≡ n + 1 → after (map line_means read) (calls_from n ls) ≡ after (map line_means (read ++ here ∷ [])) (calls_from k more)
+line_goes_on read here n k bytes ls more next says count =
+    ap (λ t. after (map line_means read) (calls_from n t)) next ∙ line_on (map line_means read) n bytes more (line_means here) says
+    ∙ ap (λ ms. after ms (calls_from (n + 1) more)) (sym (map_push line_means read here))
+    ∙ ap (λ j. after (map line_means (read ++ here ∷ [])) (calls_from j more)) (sym count)
 
 -- A line that says nothing: nothing after it mends that.
 pub line_stops : (ms : List LineMeaning) (n : ℕ) (bytes : List ℕ) (more : Lines) → line bytes ≡ None → after ms (calls_from n (a_line bytes more)) ≡ Err n

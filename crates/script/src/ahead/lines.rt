@@ -11,6 +11,7 @@ use crate::cuts::cut;
 const ROOM: usize = 65535;
 
 impl<'a> Ahead<'a> {
+    #[tactic(auto, using(crate::proofs::Walking::fits_room, std::proofs::lemmas::List::take_min), unfolding(crate::specs::Ahead::ahead))]
     pub fn of(text: &'a [u8]) -> Ahead<'a>
         ensures { ahead result ≡ lines text.now }
     {
@@ -27,7 +28,6 @@ impl<'a> Ahead<'a> {
     {
         self.whole && self.rest.is_empty()
     }
-
 }
 
 // The lines, each without its newline; none where no newline comes.

@@ -1,6 +1,7 @@
 -- A text parted at its first mark.
 use Rattle.std.proofs.Common.{◌≡◌, ℕ, ◌+◌, ◌<◌, ◌≤◌, Bool, true, false, cond, not, suc, eqb, List, [], ◌∷◌, length, take, drop, Some, None, sym, refl, ap, ◌∙◌, arith}
 use Rattle.std.proofs.lemmas.Bool.Decides.{nat_tests}
+use Rattle.std.proofs.lemmas.List.{take_rest}
 use Rattle.std.specs.List.{position, position_or_len}
 use Rattle.script.specs.Parts.{longer, parts}
 
@@ -64,3 +65,6 @@ part_whole mark (b ∷ bs) l = whole_by (eqb b mark) mark b bs (part_whole mark 
 
 pub unparted : (mark : ℕ) (text : List ℕ) → None ≡ position (λ b. eqb b mark) text → parts mark text ≡ text ∷ []
 unparted mark text e = part_whole mark text (grind (arith, nat_tests))
+
+-- what a cut needs
+pub ruleset cuts = (parted_at, unparted, take_rest)

@@ -80,3 +80,8 @@ pub signed_plain : (cs : List ℕ) → pointwise eqb (take 1 cs) (45 ∷ []) ≡
 unfolding signed
 signed_plain [] e = ap positive (sym (unsigned_none [] refl))
 signed_plain (c ∷ cs) e = let other : eqb c 45 ≡ false = grind (arith, nat_tests) in rw other refl
+
+-- what each turn of reading a number needs, and what its sign does
+pub ruleset digits = (unsigned_none, unsigned_some, number_goes_on, number_stops, number_ends)
+
+pub ruleset signs = (signed_minus, signed_plain)

@@ -22,7 +22,8 @@ pair_on xs byte [] l e = absurd (omega arith)
 pair_on xs byte (a ∷ []) l e = absurd (omega arith)
 pair_on xs byte (a ∷ b ∷ more) l e = ap (λ o. bytes_and xs (byte_and o (bytes_of_hex more))) e ∙ byte_more xs byte (bytes_of_hex more)
 
-pub pair_goes_on : (xs ys : List ℕ) (byte : ℕ) (rest : List ℕ) → 2 ≤ length rest → octet (get_or rest 0 0) (get_or rest 1 0) ≡ Some byte → ys ≡ xs ++ byte ∷ []
+pub pair_goes_on : (xs ys : List ℕ) (byte : ℕ) (rest : List ℕ) → 2 ≤ length rest
+    → octet (get_or rest 0 0) (get_or rest 1 0) ≡ Some byte → ys ≡ xs ++ byte ∷ []
     → bytes_and xs (bytes_of_hex rest) ≡ bytes_and ys (bytes_of_hex (take (length rest - 2) (drop 2 rest)))
 pair_goes_on xs ys byte rest l e more =
     pair_on xs byte rest l e ∙ ap (λ v. bytes_and v (bytes_of_hex (drop 2 rest))) (sym more)
@@ -47,3 +48,6 @@ pub pairs_end : (xs rest : List ℕ) → length rest ≡ 0 → bytes_and xs (byt
 unfolding bytes_of_hex
 pairs_end xs [] l = ap Some (append-nil xs)
 pairs_end xs (a ∷ more) l = absurd (omega arith)
+
+-- what each turn of reading digits needs
+pub ruleset octets = (pair_goes_on, pair_stops, lone_stops, pairs_end)

@@ -25,7 +25,8 @@ unfolding calls_from
 line_on ms n bytes more m e =
     ap (λ o. after ms (numbered n o (λ k. and_then k (calls_from (n + 1) more)))) e ∙ after_more ms m (calls_from (n + 1) more)
 
-pub line_goes_on : (read : List Line) (here : Line) (n k : ℕ) (bytes : List ℕ) (ls more : Lines) → ls ≡ a_line bytes more → line bytes ≡ Some (line_means here)
+pub line_goes_on : (read : List Line) (here : Line) (n k : ℕ) (bytes : List ℕ) (ls more : Lines)
+    → ls ≡ a_line bytes more → line bytes ≡ Some (line_means here)
     → k ≡ n + 1 → after (map line_means read) (calls_from n ls) ≡ after (map line_means (read ++ here ∷ [])) (calls_from k more)
 line_goes_on read here n k bytes ls more next says count =
     ap (λ t. after (map line_means read) (calls_from n t)) next ∙ line_on (map line_means read) n bytes more (line_means here) says
@@ -50,3 +51,6 @@ unfolding calls_from
 lines_end ms n no_more e = ap Ok (append-nil ms)
 lines_end ms n unended e = let z : ◌≡◌ {A = ℕ} 0 1 = cc in absurd (omega arith)
 lines_end ms n (a_line bytes more) e = let z : ◌≡◌ {A = ℕ} 0 1 = cc in absurd (omega arith)
+
+-- what each turn of reading lines needs
+pub ruleset turns = (line_goes_on, line_stops, no_line_stops, lines_end)

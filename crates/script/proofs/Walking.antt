@@ -1,8 +1,7 @@
 -- The lines of a text, one by one.
-use Rattle.std.proofs.Common.{◌≡◌, ℕ, ◌≤◌, min, Bool, true, false, cond, ◌&&◌, eqb, List, [], ◌∷◌, length, take, None, sym, refl, ap, ◌∙◌, arith}
+use Rattle.std.proofs.Common.{◌≡◌, ℕ, Bool, true, false, cond, ◌&&◌, eqb, List, [], ◌∷◌, length, None, sym, refl, ap, ◌∙◌, arith}
 use Rattle.std.proofs.lemmas.Bool.Decides.{nat_tests}
-use Rattle.std.proofs.lemmas.List.{length-take}
-use Rattle.script.specs.Parts.{room, longer, parts, no_more, unended, a_line, lines_by}
+use Rattle.script.specs.Parts.{longer, parts, no_more, unended, a_line, lines_by}
 use Rattle.script.specs.Ahead.{next_line, ended}
 use Rattle.script.proofs.Cutting.{some_parts}
 
@@ -47,6 +46,5 @@ ended_is whole [] = none_left whole
 ended_is whole (b ∷ bs) =
     let more : (whole && eqb (length (b ∷ bs)) 0) ≡ false = grind (arith, nat_tests) in byte_goes_on whole (eqb b 10) b bs ∙ sym more
 
--- What is taken of a text fits the room.
-pub fits_room : (n : ℕ) (text : List ℕ) → n ≡ min room (length text) → length (take n text) ≤ room
-fits_room n text e = omega (arith, length-take n text)
+-- what a next line needs
+pub ruleset next_lines = (line_then, last_part)

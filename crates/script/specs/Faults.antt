@@ -29,8 +29,10 @@ ReadsOrRefuses means refused said left (Err (Refused why)) = said ≡ Some (refu
 ReadsOrRefuses means refused said left (Err (NotRead Unreadable)) = said ≡ None
 ReadsOrRefuses means refused said left (Err (NotRead NoMemory)) = Unit {0}
 
-abbrev pub TakesOrRefuses : {A B : Type 0} → (A → B) → (Refusal → B) → (List (List ℕ) → Said B) → Fields → Fields → Result A Unmade → Type 0
-TakesOrRefuses means refused reading before after r = ReadsOrRefuses means refused (reading (left before)) (left after) r
+abbrev pub TakesOrRefuses : {A B : Type 0} → (A → B) → (Refusal → B) → (List (List ℕ) → Said B) → Fields → Fields
+    → Result A Unmade → Type 0
+TakesOrRefuses means refused reading before after r =
+    ReadsOrRefuses means refused (reading (left before)) (left after) r
 
 -- at the line of this number
 abbrev pub at_line : ℕ → Fault → Unread

@@ -9,7 +9,7 @@ fn first_mark(text: &[u8], mark: u8) -> Option<usize>
 }
 
 // The text before the first byte that is the mark, and the text after it.
-#[tactic(auto, using(crate::proofs::Cutting::parted_at, crate::proofs::Cutting::unparted, std::proofs::lemmas::List::take_rest))]
+#[tactic(auto, using(crate::proofs::Cutting::cuts))]
 pub fn cut(text: &[u8], mark: u8) -> Option<(&[u8], &[u8])>
     ensures parted { MatchOption result (parts mark text.now ≡ text.now ∷ [])
         (λ cut. parts mark text.now ≡ cut.0.now ∷ parts mark cut.1.now) }

@@ -7,7 +7,7 @@ use crate::fault::Fault;
 use listing::octet;
 use std::alloc::Global;
 
-#[tactic(auto, using(crate::proofs::Octets::pair_goes_on, crate::proofs::Octets::pair_stops, crate::proofs::Octets::lone_stops, crate::proofs::Octets::pairs_end))]
+#[tactic(auto, using(crate::proofs::Octets::octets))]
 pub fn hex_bytes(heap: Global, field: &[u8]) -> Result<Vec<u8>, Fault>
     ensures { Reads vec_items (bytes_of_hex field.now) result }
 {

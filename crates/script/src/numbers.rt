@@ -16,7 +16,7 @@ fn with_digit(n: u32, c: u8) -> Option<u32>
 impl Field for u32 {
     ghost says = { unsigned };
 
-    #[tactic(auto, using(crate::proofs::Decimals::unsigned_none, crate::proofs::Decimals::unsigned_some, crate::proofs::Decimals::number_goes_on, crate::proofs::Decimals::number_stops, crate::proofs::Decimals::number_ends))]
+    #[tactic(auto, using(crate::proofs::Decimals::digits))]
     fn read(field: &[u8]) -> Option<u32> {
         if field.is_empty() {
             return None;
@@ -33,7 +33,7 @@ impl Field for u32 {
 impl Field for i32 {
     ghost says = { signed };
 
-    #[tactic(auto, using(crate::proofs::Decimals::signed_minus, crate::proofs::Decimals::signed_plain))]
+    #[tactic(auto, using(crate::proofs::Decimals::signs))]
     fn read(field: &[u8]) -> Option<i32> {
         match field.strip_prefix(b"-") {
             Some(digits) => i32::try_from(-i64::from(u32::read(digits)?)).ok(),

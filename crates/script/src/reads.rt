@@ -10,7 +10,7 @@ use crate::script::{Line, Script, Unread};
 use std::alloc::Global;
 
 // The lines from the third on.
-#[tactic(auto, using(crate::proofs::Running::line_goes_on, crate::proofs::Running::line_stops, crate::proofs::Running::no_line_stops, crate::proofs::Running::lines_end))]
+#[tactic(auto, using(crate::proofs::Running::turns))]
 fn read_lines(heap: Global, mut text: Ahead<'_>) -> Result<Vec<Line>, Unread>
     ensures { Answers lines_mean (calls_from 3 (ahead text.entry)) result }
 {

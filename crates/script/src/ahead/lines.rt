@@ -11,7 +11,6 @@ use crate::cuts::cut;
 const ROOM: usize = 65535;
 
 impl<'a> Ahead<'a> {
-    #[tactic(auto, using(crate::proofs::Walking::fits_room, std::proofs::lemmas::List::take_min), unfolding(crate::specs::Ahead::ahead))]
     pub fn of(text: &'a [u8]) -> Ahead<'a>
         ensures { ahead result ≡ lines text.now }
     {
@@ -38,7 +37,7 @@ impl<'a> Iterator for Ahead<'a> {
 
     ghost remaining = { λ text. at_most (length text.rest.now) };
 
-    #[tactic(auto, using(crate::proofs::Walking::line_then, crate::proofs::Walking::last_part), unfolding(crate::specs::Ahead::ahead))]
+    #[tactic(auto, using(crate::proofs::Walking::next_lines), unfolding(crate::specs::Ahead::ahead))]
     fn next(&mut self) -> Option<&'a [u8]> {
         let (line, after) = cut(self.rest, b'\n')?;
         self.rest = after;

@@ -46,6 +46,6 @@ crop_kind = record { means = crop_means shade_kind; lawful = crop_lawful shade_k
 abbrev pub figure_kind : PictureGhosts Figure
 figure_kind = record { means = either_means shade_kind crop_kind; lawful = either_lawful shade_kind crop_kind }
 
--- a picture that was made, with what its making means
+-- what a picture that was made means
 abbrev pub made : {P : Type 0} → PictureGhosts P → P → Made
 made kind p = Ok (kind.means p)

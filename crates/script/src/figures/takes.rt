@@ -7,6 +7,7 @@ use super::{Base, Figure, Shade};
 use crate::fault::{Fault, Unmade};
 use crate::fields::Fields;
 use crate::numbers::as_byte;
+use crate::shapes::Part;
 use crate::words::Kind;
 use picture::{BitPicture, Crop, Either, GrayPicture, Inverse};
 use std::alloc::Global;
@@ -55,7 +56,6 @@ fn take_shade(heap: Global, kind: Kind, fields: &mut Fields<'_>) -> Result<Shade
 {
     match kind {
         Kind::Inverse => take_inverse(heap, fields),
-        Kind::Crop => Err(Unmade::NotRead(Fault::Unreadable)),
         _ => Ok(Either::First(take_base(heap, kind, fields)?)),
     }
 }
@@ -63,11 +63,10 @@ fn take_shade(heap: Global, kind: Kind, fields: &mut Fields<'_>) -> Result<Shade
 fn take_crop(heap: Global, fields: &mut Fields<'_>) -> Result<Figure, Unmade>
     ensures { TakesOrRefuses (made figure_kind) Err (figure_by Kind.Crop) fields.old fields.new result }
 {
-    let part = fields.part()?;
+    let Part { left, top, size } = fields.part()?;
     let kind = fields.read()?;
     let shade = take_shade(heap, kind, fields)?;
-    let size = part.size;
-    let crop = Crop::new(shade, part.left, part.top, size.width, size.height)?;
+    let crop = Crop::new(shade, left, top, size.width, size.height)?;
     Ok(Either::Second(crop))
 }
 

@@ -2,8 +2,7 @@
 use Rattle.std.proofs.Common.{◌≡◌, List, [], ◌∷◌, ◌++◌, Some, None, Option, sym, ap, ◌∙◌, append_assoc, append-nil}
 use Rattle.refusal.specs.declared.refusals.Refusal.{Refusal}
 use Rattle.screen.specs.declared.scripts.Call.{Call}
-use Rattle.script.specs.declared.script.Line.{Line}
-use Rattle.script.specs.declared.script.Line.TheVariants.{Made, Refused}
+use Rattle.script.specs.Calls.{Line}
 use Rattle.script.specs.Meanings.{Figure}
 use Rattle.runner.specs.Plans.{calls_of, refusals_of, Planned}
 
@@ -13,7 +12,7 @@ pub record Planning (all rest : List Line) (cs : List (Call Figure)) (rs : List 
   pub refused_left : refusals_of all ≡ rs ++ refusals_of rest
 
 -- a line whose picture was made has a call
-pub planning_made : (all rest more : List Line) (cs ds : List (Call Figure)) (rs ss : List (Option Refusal)) (c : Call Figure) → Planning all rest cs rs → rest ≡ Made c ∷ more
+pub planning_made : (all rest more : List Line) (cs ds : List (Call Figure)) (rs ss : List (Option Refusal)) (c : Call Figure) → Planning all rest cs rs → rest ≡ Ok c ∷ more
     → ds ≡ cs ++ c ∷ [] → ss ≡ rs ++ None ∷ [] → Planning all more ds ss
 planning_made all rest more cs ds rs ss c p is e f = record {
   calls_left = p.calls_left ∙ ap (λ x. cs ++ calls_of x) is ∙ sym (append_assoc cs (c ∷ []) (calls_of more)) ∙ ap (λ x. x ++ calls_of more) (sym e);
@@ -21,7 +20,7 @@ planning_made all rest more cs ds rs ss c p is e f = record {
 }
 
 -- another has none
-pub planning_refused : (all rest more : List Line) (cs : List (Call Figure)) (rs ss : List (Option Refusal)) (why : Refusal) → Planning all rest cs rs → rest ≡ Refused why ∷ more
+pub planning_refused : (all rest more : List Line) (cs : List (Call Figure)) (rs ss : List (Option Refusal)) (why : Refusal) → Planning all rest cs rs → rest ≡ Err why ∷ more
     → ss ≡ rs ++ Some why ∷ [] → Planning all more cs ss
 planning_refused all rest more cs rs ss why p is f = record {
   calls_left = p.calls_left ∙ ap (λ x. cs ++ calls_of x) is;

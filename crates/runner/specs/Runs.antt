@@ -8,7 +8,7 @@ use Rattle.screen.specs.declared.scripts.Answer.{Answer}
 use Rattle.screen.specs.Lives.{World, Life}
 use Rattle.screen.specs.Screens.{fresh_screen}
 use Rattle.screen.specs.Scripts.{Performed}
-use Rattle.script.specs.declared.script.Line.{Line}
+use Rattle.script.specs.Calls.{Line}
 use Rattle.script.specs.Meanings.{figure_kind}
 use Rattle.runner.specs.Plans.{calls_of, refusals_of}
 

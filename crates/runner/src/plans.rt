@@ -21,11 +21,11 @@ pub fn planned(heap: Global, lines: Vec<Line>) -> Result<Plan, AllocError>
     let mut refused = Vec::new(heap);
     for line in lines {
         match line {
-            Line::Made(call) => {
+            Ok(call) => {
                 calls.push(call)?;
                 refused.push(None)?;
             }
-            Line::Refused(refusal) => refused.push(Some(refusal))?,
+            Err(refusal) => refused.push(Some(refusal))?,
         }
     }
     Ok(Plan { calls, refused })

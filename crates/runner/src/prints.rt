@@ -5,8 +5,7 @@ use crate::wanted::Wanted;
 use anyhow::anyhow;
 use link::ListingLink;
 use listing::{replay, view_on};
-use refusal::Refusal;
-use script::{Card, Script, Unread, read};
+use script::{Script, Unread, read};
 use ssd1329::{Controller, Wiring};
 use std::alloc::Global;
 use std::io;
@@ -65,15 +64,6 @@ fn write_wanted<W: Write>(
     Ok(())
 }
 
-fn wiring_of(card: Card) -> Result<Wiring, Refusal> {
-    Wiring::new(
-        card.mirrored,
-        card.flipped,
-        card.comb,
-        card.shift.min(255) as u8,
-    )
-}
-
 fn write_script<W: Write>(
     heap: Global,
     script: Script,
@@ -85,7 +75,7 @@ fn write_script<W: Write>(
         buffer,
         lines,
     } = script;
-    let wiring = match wiring_of(card) {
+    let wiring = match Wiring::try_from(card) {
         Ok(wiring) => wiring,
         Err(refusal) => return Ok(writeln!(out, "{}", refusal.number())?),
     };

@@ -1,10 +1,9 @@
 -- A script read line by line.
 use Rattle.std.proofs.Common.{◌≡◌, ℕ, ◌+◌, true, false, List, [], ◌∷◌, ◌++◌, map, Some, None, Ok, Err, Result, sym, refl, ap, ◌∙◌, arith}
 use Rattle.std.proofs.lemmas.List.{append_assoc, append-nil, map_push}
-use Rattle.script.specs.declared.script.Line.{Line}
 use Rattle.script.specs.Parts.{Lines, no_more, unended, a_line}
 use Rattle.script.specs.Ahead.{next_line, ended}
-use Rattle.script.specs.Calls.{LineMeaning, line_means}
+use Rattle.script.specs.Calls.{Line, LineMeaning, line_means}
 use Rattle.script.specs.Lines.{line}
 use Rattle.script.specs.Scripts.{numbered, and_then, calls_from}
 

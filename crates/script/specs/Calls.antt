@@ -1,9 +1,8 @@
 -- What the lines of a script mean.
+use Rattle.std.specs.Prelude.{Ok, Err, Result}
 use Rattle.refusal.specs.declared.refusals.Refusal.{Refusal}
 use Rattle.drawing.specs.Book as book
 use Rattle.screen.specs.Scripts.{meant}
-use Rattle.script.specs.declared.script.Line.{Line}
-use Rattle.script.specs.declared.script.Line.TheVariants.{Made, Refused}
 use Rattle.screen.specs.declared.scripts.Call.{Call}
 use Rattle.script.specs.Meanings.{Figure, figure_kind}
 
@@ -15,6 +14,10 @@ pub data LineMeaning : Type 0 where
 abbrev pub call_means : Call Figure → LineMeaning
 call_means c = calls (meant figure_kind c)
 
+-- a call, or why there is none
+abbrev pub Line : Type 0
+Line = Result (Call Figure) Refusal
+
 abbrev pub line_means : Line → LineMeaning
-line_means (Made c) = call_means c
-line_means (Refused why) = refuses why
+line_means (Ok c) = call_means c
+line_means (Err why) = refuses why

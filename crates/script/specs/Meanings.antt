@@ -7,7 +7,7 @@ use Rattle.picture.specs.declared.kinds.BitPicture.{BitPicture}
 use Rattle.picture.specs.declared.kinds.GrayPicture.{GrayPicture}
 use Rattle.picture.specs.declared.kinds.Inverse.{Inverse}
 use Rattle.picture.specs.declared.kinds.Crop.{Crop}
-use Rattle.picture.specs.declared.kinds.Either.{Either}
+use Rattle.either.specs.declared.Either.{Either}
 use Rattle.picture.specs.Kinds.{bits_mean, grays_mean, inverse_means, crop_means, either_means}
 use Rattle.picture.specs.Lawfulness.{bits_lawful, grays_lawful, inverse_lawful, crop_lawful, either_lawful}
 use Rattle.script.specs.Figures.{Made}
@@ -17,9 +17,6 @@ Base = Either (BitPicture (Vec ℕ Global)) (GrayPicture (Vec ℕ Global))
 
 abbrev pub Shade : Type 0
 Shade = Either Base (Inverse Base)
-
-abbrev pub Figure : Type 0
-Figure = Either Shade (Crop Shade)
 
 abbrev pub owned : BytesGhosts (Vec ℕ Global)
 owned = record { list = vec_items }
@@ -40,7 +37,10 @@ inverse_kind = record { means = inverse_means base_kind; lawful = inverse_lawful
 abbrev pub shade_kind : PictureGhosts Shade
 shade_kind = record { means = either_means base_kind inverse_kind; lawful = either_lawful base_kind inverse_kind }
 
-abbrev pub crop_kind : PictureGhosts (Crop Shade)
+abbrev pub Figure : Type 0
+Figure = Either Shade (Crop Shade shade_kind)
+
+abbrev pub crop_kind : PictureGhosts (Crop Shade shade_kind)
 crop_kind = record { means = crop_means shade_kind; lawful = crop_lawful shade_kind }
 
 abbrev pub figure_kind : PictureGhosts Figure

@@ -1,11 +1,10 @@
 -- What reading a text answers.
 use Rattle.std.specs.Prelude.{◌≡◌, ℕ, List, map, Ok, Err, vec_items, Result, Vec}
 use Rattle.std.specs.declared.alloc.Global.{Global}
-use Rattle.script.specs.declared.script.Line.{Line}
 use Rattle.script.specs.declared.script.Script.{Script}
 use Rattle.script.specs.declared.script.Unread.{Unread}
 use Rattle.script.specs.declared.script.Unread.TheVariants.{BadLine, NoMemory}
-use Rattle.script.specs.Calls.{LineMeaning, line_means}
+use Rattle.script.specs.Calls.{Line, LineMeaning, line_means}
 use Rattle.script.specs.Scripts.{ScriptMeaning}
 
 abbrev pub lines_mean : Vec Line Global → List LineMeaning

@@ -56,8 +56,8 @@ pub fn read_line(heap: Global, text: &[u8]) -> Result<Line, Fault>
     let mut fields = Fields::of(text);
     let verb = fields.read()?;
     match take_call(heap, verb, &mut fields) {
-        Ok(call) => fields.end(Line::Made(call)),
-        Err(Unmade::Refused(refusal)) => fields.end(Line::Refused(refusal)),
+        Ok(call) => fields.end(Ok(call)),
+        Err(Unmade::Refused(refusal)) => fields.end(Err(refusal)),
         Err(Unmade::NotRead(fault)) => Err(fault),
     }
 }

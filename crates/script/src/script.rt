@@ -32,13 +32,8 @@ impl TryFrom<Card> for Wiring {
     }
 }
 
-#[derive(Drop)]
-pub enum Line {
-    // a call to be made
-    Made(Call<Figure>),
-    // a picture that cannot be made; there is no call
-    Refused(Refusal),
-}
+// A call to be made; or why its picture cannot be made, and then there is none.
+pub type Line = Result<Call<Figure>, Refusal>;
 
 #[derive(Drop)]
 pub struct Script {

@@ -19,7 +19,7 @@ fn take_bits(heap: Global, fields: &mut Fields<'_>) -> Result<Base, Unmade>
     let gray = as_byte(fields.read()?);
     let bytes = fields.bytes(heap)?;
     let picture = BitPicture::new(bytes, size.width, size.height, gray)?;
-    Ok(Either::First(picture))
+    Ok(Either::Left(picture))
 }
 
 fn take_grays(heap: Global, fields: &mut Fields<'_>) -> Result<Base, Unmade>
@@ -28,7 +28,7 @@ fn take_grays(heap: Global, fields: &mut Fields<'_>) -> Result<Base, Unmade>
     let size = fields.extent()?;
     let bytes = fields.bytes(heap)?;
     let picture = GrayPicture::new(bytes, size.width, size.height)?;
-    Ok(Either::Second(picture))
+    Ok(Either::Right(picture))
 }
 
 // Dots, by the word that came before them.
@@ -47,7 +47,7 @@ fn take_inverse(heap: Global, fields: &mut Fields<'_>) -> Result<Shade, Unmade>
 {
     let kind = fields.read()?;
     let base = take_base(heap, kind, fields)?;
-    Ok(Either::Second(Inverse::new(base)))
+    Ok(Either::Right(Inverse::new(base)))
 }
 
 // Dots or their inverse, by the word that came before them.
@@ -56,7 +56,7 @@ fn take_shade(heap: Global, kind: Kind, fields: &mut Fields<'_>) -> Result<Shade
 {
     match kind {
         Kind::Inverse => take_inverse(heap, fields),
-        _ => Ok(Either::First(take_base(heap, kind, fields)?)),
+        _ => Ok(Either::Left(take_base(heap, kind, fields)?)),
     }
 }
 
@@ -67,7 +67,7 @@ fn take_crop(heap: Global, fields: &mut Fields<'_>) -> Result<Figure, Unmade>
     let kind = fields.read()?;
     let shade = take_shade(heap, kind, fields)?;
     let crop = Crop::new(shade, left, top, size.width, size.height)?;
-    Ok(Either::Second(crop))
+    Ok(Either::Right(crop))
 }
 
 // A picture, which a word begins.
@@ -76,6 +76,6 @@ pub fn take_figure(heap: Global, fields: &mut Fields<'_>) -> Result<Figure, Unma
 {
     match fields.read()? {
         Kind::Crop => take_crop(heap, fields),
-        kind => Ok(Either::First(take_shade(heap, kind, fields)?)),
+        kind => Ok(Either::Left(take_shade(heap, kind, fields)?)),
     }
 }

@@ -12,12 +12,12 @@ loop-line-init c = record {
 
 pub loop-line-preserved : goal.loop-line-preserved
 loop-line-preserved c =
-    planning_refused _ _ _ _ _ _ c.in-Refused.refusal c.loop-line.invariant (c.in-Some.ensures.steps.0 ∙ ap (λ x. x ∷ c.next.new.self.rest.items) c.in-Refused.is)
+    planning_refused _ _ _ _ _ _ c.in-Err.refusal c.loop-line.invariant (c.in-Some.ensures.steps.0 ∙ ap (λ x. x ∷ c.next.new.self.rest.items) c.in-Err.is)
     (search rules)
 
 pub loop-line-preserved-in-Continue-branch-2 : goal.loop-line-preserved-in-Continue-branch-2
 loop-line-preserved-in-Continue-branch-2 c =
-    planning_made _ _ _ _ _ _ _ c.in-Made.call c.loop-line.invariant (c.in-Some.ensures.steps.0 ∙ ap (λ x. x ∷ c.next.new.self.rest.items) c.in-Made.is)
+    planning_made _ _ _ _ _ _ _ c.in-Ok.call c.loop-line.invariant (c.in-Some.ensures.steps.0 ∙ ap (λ x. x ∷ c.next.new.self.rest.items) c.in-Ok.is)
     (search rules) (search rules)
 
 pub returns : goal.returns

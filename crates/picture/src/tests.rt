@@ -3,7 +3,7 @@ ghost use Rattle.std.specs.Prelude.{◌≡◌};
 ghost use Rattle.picture.specs.Packed.{bit_refusal};
 
 use crate::{BitPicture, Crop, Either, GrayPicture, Inverse, Picture};
-use refusal::{HandedBack, Refusal};
+use refusal::Refusal;
 use std::test::Fail;
 
 const BITS: &[u8] = &[0xa0, 0x40, 0x01, 0x80];
@@ -12,9 +12,7 @@ const GRAYS: &[u8] = &[0x1f, 0x50, 0xa7, 0xc0];
 
 #[test]
 fn a_bit_picture_has_its_gray_where_a_bit_is_1(rt: HostRuntime) -> Result<(), Fail> {
-    let Ok(picture) = BitPicture::new(BITS, 10, 2, 9) else {
-        return Err(Fail::new("refused"));
-    };
+    let picture = BitPicture::new(BITS, 10, 2, 9).map_err(|_| Fail::new("refused"))?;
     assert_eq!(rt; picture.width(), 10);
     assert_eq!(rt; picture.height(), 2);
     assert_eq!(rt; picture.dot(2, 0)?, Some(9));
@@ -27,12 +25,8 @@ fn a_bit_picture_has_its_gray_where_a_bit_is_1(rt: HostRuntime) -> Result<(), Fa
 
 #[test]
 fn a_crop_of_a_bit_picture_is_its_right_edge(rt: HostRuntime) -> Result<(), Fail> {
-    let Ok(picture) = BitPicture::new(BITS, 10, 2, 9) else {
-        return Err(Fail::new("refused"));
-    };
-    let Ok(crop) = Crop::new(picture, 7, 0, 3, 2) else {
-        return Err(Fail::new("refused"));
-    };
+    let picture = BitPicture::new(BITS, 10, 2, 9).map_err(|_| Fail::new("refused"))?;
+    let crop = Crop::new(picture, 7, 0, 3, 2).map_err(|_| Fail::new("refused"))?;
     assert_eq!(rt; crop.dot(1, 0)?, None);
     assert_eq!(rt; crop.dot(2, 0)?, Some(9));
     assert_eq!(rt; crop.dot(0, 1)?, Some(9));
@@ -45,9 +39,9 @@ fn a_crop_of_a_bit_picture_is_its_right_edge(rt: HostRuntime) -> Result<(), Fail
 
 #[test]
 fn an_inverse_has_15_less_the_gray(rt: HostRuntime) -> Result<(), Fail> {
-    let Ok(picture) = GrayPicture::new(GRAYS.to_vec(rt.alloc())?, 3, 2) else {
-        return Err(Fail::new("refused"));
-    };
+    let picture = GrayPicture::new(GRAYS.to_vec(rt.alloc())?, 3, 2).map_err(|_| Fail::new(
+        "refused",
+    ))?;
     assert_eq!(rt; picture.dot(0, 0)?, Some(1));
     assert_eq!(rt; picture.dot(2, 1)?, Some(12));
     let inverse = Inverse::new(picture);
@@ -59,12 +53,8 @@ fn an_inverse_has_15_less_the_gray(rt: HostRuntime) -> Result<(), Fail> {
 
 #[test]
 fn one_of_two_kinds_is_what_it_holds(rt: HostRuntime) -> Result<(), Fail> {
-    let (Ok(bits), Ok(grays)) = (
-        BitPicture::new(BITS, 10, 2, 9),
-        GrayPicture::new(GRAYS, 3, 2),
-    ) else {
-        return Err(Fail::new("refused"));
-    };
+    let bits = BitPicture::new(BITS, 10, 2, 9).map_err(|_| Fail::new("refused"))?;
+    let grays = GrayPicture::new(GRAYS, 3, 2).map_err(|_| Fail::new("refused"))?;
     let mut picture = Either::Left(bits);
     assert_eq!(rt; picture.width(), 10);
     assert_eq!(rt; picture.dot(9, 0)?, Some(9));
@@ -78,10 +68,9 @@ fn one_of_two_kinds_is_what_it_holds(rt: HostRuntime) -> Result<(), Fail> {
 fn refused(width: u32, height: u32, gray: u8) -> Option<Refusal>
     ensures { result ≡ bit_refusal 4 width height gray }
 {
-    match BitPicture::new(BITS, width, height, gray) {
-        Ok(_) => None,
-        Err(HandedBack { refusal, value: _ }) => Some(refusal),
-    }
+    BitPicture::new(BITS, width, height, gray)
+        .err()
+        .map(|back| back.refusal)
 }
 
 #[test]

@@ -154,7 +154,7 @@ def lemmas():
         if '/proofs/' in str(p) and p.name not in ('Answers.antt', 'Invariants.antt', 'Lib.antt'):
             names += [(p, n) for n in re.findall(r'^(?:pub )?([^\s:|]+) : ', text, re.M)]
     texts += [s.text for s in SOURCES]
-    uses = collections.Counter(w for t in texts for w in re.findall(r'[^\s(){},;.]+', t))
+    uses = collections.Counter(w for t in texts for w in re.findall(r'[^\s(){},;.:]+', t))
     for p, n in names:
         if uses[n] <= 2:
             POINTS.setdefault(8, collections.OrderedDict()).setdefault('lemma that nothing cites', []).append('%s: %s' % (p.relative_to(ROOT / 'crates'), n))

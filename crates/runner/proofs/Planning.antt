@@ -1,5 +1,5 @@
 -- Lines, one after the other.
-use Rattle.std.proofs.Common.{◌≡◌, List, [], ◌∷◌, ◌++◌, Some, None, Option, sym, ap, ◌∙◌, append_assoc, append-nil}
+use Rattle.std.proofs.Common.{◌≡◌, List, [], ◌∷◌, ◌++◌, Some, None, Option, Ok, Err, sym, ap, ◌∙◌, append_assoc, append-nil}
 use Rattle.refusal.specs.declared.refusals.Refusal.{Refusal}
 use Rattle.screen.specs.declared.scripts.Call.{Call}
 use Rattle.script.specs.Calls.{Line}

@@ -42,10 +42,6 @@ pub and_then : {s t u xs ys : List ℕ} {at to end : ℕ} → at ≤ length s �
 and_then {s = s} {t = t} {u = u} {xs = xs} {ys = ys} {at = at} {to = to} h p q =
     record { text = grind (arith, written_then s xs ys at h, p.text, p.ends, q.text); ends = grind (arith, common_steps, p.ends, q.ends) }
 
--- the same text, spelled otherwise
-pub put_same : {s t xs ys : List ℕ} {at end : ℕ} → xs ≡ ys → Put s at xs t end → Put s at ys t end
-put_same {s = s} {t = t} {at = at} {end = end} e p = subst (λ z. Put s at z t end) e p
-
 pub written_long : (s xs : List ℕ) (at : ℕ) → at + length xs ≤ length s → length (written s at xs) ≡ length s
 unfolding written
 written_long s xs at h = grind (arith, common_steps)
@@ -54,6 +50,7 @@ written_long s xs at h = grind (arith, common_steps)
 pub adds_then : {t u v : Text} {xs ys : List ℕ} → t.len ≤ length t.buffer.now → Adds t u xs → Adds u v ys → Adds t v (xs ++ ys)
 adds_then h p q = record { put = and_then h p.put q.put; same_length = q.same_length ∙ p.same_length; same_buffer = q.same_buffer ∙ p.same_buffer }
 
+-- the same text, spelled otherwise
 pub adds_same : {t u : Text} {xs ys : List ℕ} → xs ≡ ys → Adds t u xs → Adds t u ys
 adds_same {t = t} {u = u} e p = subst (λ z. Adds t u z) e p
 

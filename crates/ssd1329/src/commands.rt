@@ -1,4 +1,5 @@
 // The opcodes that the controller takes, with the data sheet's names.
+// Numbers, since they go over the wire as they are.
 pub const SET_COLUMNS: u8 = 0x15;
 
 pub const SET_LINES: u8 = 0x75;

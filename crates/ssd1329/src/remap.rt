@@ -1,4 +1,5 @@
 // The bits of the re-map byte.
+// Numbers, since the byte comes over the wire as it is.
 pub(crate) const COLUMNS_REVERSED: u8 = 0x01;
 
 pub(crate) const HALVES_SWAPPED: u8 = 0x02;

@@ -61,6 +61,7 @@ impl Controller {
     }
 
     // Reset leaves the memory as it is.
+    // Field by field, since the memory cannot be moved out of a lent controller.
     #[tactic(auto, unfolding(crate::specs::Chip::reset, crate::specs::Chip::dropped))]
     pub fn reset(&mut self)
         ensures fresh { chip self.new ≡ reset (chip self.old).memory }

@@ -41,6 +41,7 @@ impl Window {
     }
 
     // On to the place of the next byte, along the line or down the column.
+    // The flag stays: it is a bit of the re-map byte, known only when a byte comes.
     pub(super) fn advance(&mut self, down: bool)
         ensures { area self.new ≡ advanced (area self.old) down }
     {

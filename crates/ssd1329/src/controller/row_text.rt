@@ -33,7 +33,7 @@ impl<'a> Text<'a> {
         self.len = end;
     }
 
-    // A number in decimal digits.
+    // A number in decimal digits. By itoa: the contract of `write!` lets any call fail.
     #[tactic(auto, using(crate::proofs::Texts::decimal_is))]
     fn put_decimal(&mut self, n: u8)
         requires { self.old.len + 3 ≤ length self.old.buffer.now }
@@ -61,6 +61,7 @@ impl<'a> Text<'a> {
 impl Controller {
     // Writes the text of row y at the front of the buffer; the answer is its length.
     // A row above 127 is refused, then a buffer of less than 1,408 bytes.
+    // The buffer is memory of the caller: nothing is allocated here.
     pub fn row_text(&self, wiring: &Wiring, y: u32, out: &mut [u8]) -> Result<usize, Refusal>
         ensures { RowWritten (wires wiring.now) (chip self.now) y out.old out.new result }
     {

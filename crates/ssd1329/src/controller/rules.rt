@@ -50,12 +50,6 @@ impl Controller {
         self.awaited = awaited;
     }
 
-    fn set_awake(&mut self, awake: bool)
-        ensures { chip self.new ≡ asleep_or_awake (chip self.old) awake }
-    {
-        self.awake = awake;
-    }
-
     fn opcode(&mut self, b: u8)
         ensures { chip self.new ≡ opcode_met (chip self.old) b }
     {
@@ -66,8 +60,8 @@ impl Controller {
             commands::SET_START_LINE => self.await_next(Awaited::StartLine),
             commands::SET_OFFSET => self.await_next(Awaited::Offset),
             commands::SET_MUX => self.await_next(Awaited::Mux),
-            commands::SLEEP => self.set_awake(false),
-            commands::WAKE => self.set_awake(true),
+            commands::SLEEP => self.awake = false,
+            commands::WAKE => self.awake = true,
             commands::NOTHING => {}
             _ => self.go_astray(),
         }

@@ -8,7 +8,7 @@ use super::Wiring;
 use refusal::Refusal;
 
 impl Wiring {
-    // The wiring of a card; a shift above 127 is refused.
+    // The wiring of a card, by its four entries; a shift above 127 is refused.
     pub fn new(mirrored: bool, flipped: bool, comb: bool, shift: u8) -> Result<Wiring, Refusal>
         ensures judged { is_ok result ≡ nat_le shift 127 }
         ensures made { MatchResult result (λ w. wires w ≡ card mirrored flipped comb shift) (λ e. e ≡ Shift) }

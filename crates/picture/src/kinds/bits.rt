@@ -13,6 +13,7 @@ impl<B: Bytes> BitPicture<B> {
     pub fn new(bytes: B, width: u32, height: u32, gray: u8) -> Result<BitPicture<B>, HandedBack<B>>
         ensures { BitsMade B.Bytes bytes width height gray result }
     {
+        // Both answers take the bytes, which two closures could not.
         let refusal = match Layout::new(bytes.all(), width, height) {
             Ok(layout) if gray <= 15 => return Ok(BitPicture {
                 bytes,

@@ -13,6 +13,7 @@ impl<B: Bytes> GrayPicture<B> {
     pub fn new(bytes: B, width: u32, height: u32) -> Result<GrayPicture<B>, HandedBack<B>>
         ensures { GraysMade B.Bytes bytes width height result }
     {
+        // Both answers take the bytes, which two closures could not.
         match Layout::new(bytes.all(), width, height) {
             Ok(layout) => Ok(GrayPicture { bytes, layout }),
             Err(refusal) => Err(HandedBack {

@@ -20,7 +20,7 @@ module _ (w s m : ℕ) (fits : w < 2 ^ 64) (some : 0 < m) (within : s + m ≤ 64
   out_bit : (k : ℕ) → k < 64 → bit out k ≡ (bit w k && not (bit (low * 2 ^ s) k))
   out_bit k h =
       bit_of_and w (2 ^ 64 - 1 - mask) k
-      ∙ ap (λ b. bit w k && b) (bit_not 64 mask k (mod-lt (low * 2 ^ s) (pow_pos 64)) h ∙ ap not (bit_mod 64 (low * 2 ^ s) k h))
+      ∙ ap (λ b. bit w k && b) (bit_not mask k (mod-lt (low * 2 ^ s) (pow_pos 64)) h ∙ ap not (bit_mod 64 (low * 2 ^ s) k h))
 
   -- the mask before its shift: m ones
   low_bit : (j : ℕ) → j < m → bit low j ≡ true

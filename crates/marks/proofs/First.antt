@@ -29,7 +29,7 @@ module _ (w : ℕ) (fits : w < 2 ^ 64) (some : 0 < w) where
   set : (j : ℕ) → j < n → bit w (s + j) ≡ true
   set j h =
       sym (bit_shr w s j)
-      ∙ not-false (bit (w / 2 ^ s) j) (sym (bit_not 64 (w / 2 ^ s) j u_lt (omega (arith, n_le))) ∙ zeros_below 64 (2 ^ 64 - 1 - w / 2 ^ s) j h)
+      ∙ not-false (bit (w / 2 ^ s) j) (sym (bit_not (w / 2 ^ s) j u_lt (omega (arith, n_le))) ∙ zeros_below (2 ^ 64 - 1 - w / 2 ^ s) (omega arith) j h)
 
   -- bit 64 is clear, so they stop there at the latest
   within : s + n ≤ 64
@@ -46,13 +46,13 @@ module _ (w : ℕ) (fits : w < 2 ^ 64) (some : 0 < w) where
   stop = ⊎_elim
       (λ (l : n < 64).
       sym (bit_shr w s n)
-      ∙ not-true (bit (w / 2 ^ s) n) (sym (bit_not 64 (w / 2 ^ s) n u_lt l) ∙ zeros_stop 64 (2 ^ 64 - 1 - w / 2 ^ s) l))
+      ∙ not-true (bit (w / 2 ^ s) n) (sym (bit_not (w / 2 ^ s) n u_lt l) ∙ zeros_stop (2 ^ 64 - 1 - w / 2 ^ s) (omega arith) l))
       (λ l. bit_above 64 w (s + n) fits (omega arith))
       (cases_lt n 64)
 
   -- where the zeros stop
   here : bit w s ≡ true
-  here = zeros_stop 64 w s_lt
+  here = zeros_stop w fits s_lt
 
   -- so there is a one
   long : 0 < n
@@ -67,7 +67,7 @@ module _ (w : ℕ) (fits : w < 2 ^ 64) (some : 0 < w) where
   first_of = record {
     within = within;
     some = long;
-    before = λ k l. zeros_below 64 w k l;
+    before = zeros_below w fits;
     inside = λ k l u.
         let e : s + (k - s) ≡ k = omega arith in
         let h : k - s < n = omega arith in

@@ -1,5 +1,4 @@
 // Due bytes that one window sends.
-ghost use Rattle.std.specs.Prelude.{◌≡◌, ◌+◌, ◌<◌, ◌≤◌};
 ghost use Rattle.marks.specs.Blocks.{block, Shaped};
 ghost use Rattle.marks.specs.Blocks as meaning;
 

@@ -1,6 +1,5 @@
 // A flush: one slot of the link, with the settings that are owed, the due bytes in blocks, and a closing command.
-ghost use Rattle.std.specs.Prelude.{◌≡◌, ℕ, ◌+◌, ◌<◌, not, ◌&&◌, ◌||◌, length, ◌==◌, nat_lt};
-ghost use Rattle.marks.specs.Blocks.{bytes_due};
+ghost use Rattle.std.specs.Prelude.{◌≡◌, ◌<◌, not, ◌&&◌, ◌||◌, ◌==◌, nat_lt};
 ghost use Rattle.screen.specs.Flushing.{setting, closing, Found, Told, FlushStep, WindowStep};
 ghost use Rattle.screen.specs.Screens.{shows};
 ghost use Rattle.screen.specs.Slots.{Sends};

@@ -1,5 +1,5 @@
 // Sending due bytes as blocks.
-ghost use Rattle.std.specs.Prelude.{◌≡◌, ℕ, ◌+◌, ◌-◌, ◌*◌, ◌/◌, ◌^◌, ◌<◌, ◌≤◌, length, slice_index};
+ghost use Rattle.std.specs.Prelude.{◌≡◌, ℕ, ◌+◌, ◌-◌, ◌/◌, ◌^◌, ◌<◌, ◌≤◌, length, slice_index};
 ghost use Rattle.marks.specs.Marks.{First};
 ghost use Rattle.marks.specs.Blocks.{area, parts, words, bytes_due, Part, Clears};
 ghost use Rattle.marks.specs.Sending.{Chosen, EndsThere, InOneBlock, Swept};

@@ -18,7 +18,7 @@ loop-line-preserved c =
 pub loop-line-preserved-in-Continue-branch-2 : goal.loop-line-preserved-in-Continue-branch-2
 loop-line-preserved-in-Continue-branch-2 c =
     planning_made _ _ _ _ _ _ _ c.in-Ok.call c.loop-line.invariant (c.in-Some.ensures.steps.0 ∙ ap (λ x. x ∷ c.next.new.self.rest.items) c.in-Ok.is)
-    (search rules) (search rules)
+    c.in_ok-push-in-Ok.ensures.items c.in_ok-push-in-Ok-2.ensures.items
 
 pub returns : goal.returns
 returns c =

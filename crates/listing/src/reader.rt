@@ -6,6 +6,7 @@ ghost use Rattle.listing.specs.ReadBack.{listed};
 mod next;
 
 // What stands before `at` is a listing; `slot` is the slot after it, none if closed, else the transfers left.
+// The place stays beside the text, since a bad line is told by where it begins in the whole text.
 #[derive(Drop)]
 pub struct Reader<'a> {
     text: &'a [u8],

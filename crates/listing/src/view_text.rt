@@ -10,7 +10,7 @@ use ssd1329::{Controller, Shows, Wiring};
 use std::io;
 use std::io::Write;
 
-// A line for each dot above 0, row by row.
+// A line for each dot above 0, row by row. Nothing is allocated: a row's text has at most 1,408 bytes.
 fn show_dots<W: Write>(controller: &Controller, wiring: &Wiring, out: &mut W) -> io::Result<()> {
     let mut row = [0u8; 1408];
     for y in 0..128 {

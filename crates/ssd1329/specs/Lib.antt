@@ -9,4 +9,5 @@ pub mod RowText
 pub mod RowTextCall
 pub mod Settings
 pub mod Text
+pub mod ShowsWords
 pub mod Wiring

@@ -1,4 +1,6 @@
 // What a look at the module tells at once.
+ghost use Rattle.std.specs.Prelude.{Some};
+
 use std::fmt;
 
 #[derive(Clone, Copy, PartialEq, Eq, Debug)]
@@ -12,6 +14,10 @@ pub enum Shows {
 }
 
 impl fmt::Display for Shows {
+    ghost use Rattle.ssd1329.specs.ShowsWords.{shows_word};
+
+    ghost output = { λ shows. Some (shows_word shows) };
+
     fn fmt<W: fmt::Write>(&self, f: &mut fmt::Formatter<W>) -> fmt::Result {
         f.write_str(match self {
             Shows::Astray => "astray",

@@ -4,4 +4,5 @@ pub mod ReadBack
 pub mod Reading
 pub mod Replay
 pub mod Writing
+pub mod Viewing
 pub mod Laws

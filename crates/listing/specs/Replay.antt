@@ -1,7 +1,6 @@
 -- What a controller makes of a listing. Assumes nothing.
-use Rattle.std.specs.Prelude.{◌≡◌, ℕ, ◌≤◌, List, [], ◌∷◌, ◌++◌, length, Ok, Err, Result, decimal}
+use Rattle.std.specs.Prelude.{◌≡◌, ℕ, ◌≤◌, List, [], ◌∷◌, length, Ok, Err, Result}
 use Rattle.refusal.specs.declared.bad_listing.BadListing.{BadListing}
-use Rattle.refusal.specs.Numbers.{bad_listing_number}
 use Rattle.ssd1329.specs.Chip.{Chip, step, dropped}
 use Rattle.listing.specs.declared.record.Record.{Record}
 use Rattle.listing.specs.declared.record.Record.TheVariants.{Open, Sent, Close}
@@ -38,10 +37,6 @@ Checked bytes (Err e) = RefusedAt bytes e.place
 abbrev pub Read : List ℕ → Chip → Chip → Result (Unit {0}) BadListing → Type 0
 Read bytes before after (Ok x) = Replayed bytes before after
 Read bytes before after (Err e) = RefusedAt bytes e.place × (after ≡ before)
-
--- what is written of a text that is refused: the refusal's number, a tab, the place and a newline
-abbrev pub refusal_line : ℕ → List ℕ
-refusal_line place = decimal bad_listing_number ++ 9 ∷ decimal place ++ 10 ∷ []
 
 -- the text was replayed, with one answer or another
 abbrev pub Viewed : List ℕ → Chip → Chip → Type 0

@@ -41,6 +41,10 @@ fn narrowings_nest_and_end_with_the_script(rt: HostRuntime) -> Result<(), Fail> 
     let Ok(picture) = GrayPicture::new(vec![in heap; 0x9Au8]?, 2, 1) else {
         return Err(Fail::new("no picture"));
     };
+    let mut screen = Screen::new(Wiring::plain(), panel).map_err(|_| Fail::new("refused"))?;
+    let picture = GrayPicture::new(vec![in heap; 0x9Au8]?, 2, 1).map_err(|_| Fail::new(
+        "no picture",
+    ))?;
     let script: Vec<Call<Picture>> = vec![in heap;
         Call::Narrow(0, 0, 8, 8),
         Call::Ink(7),

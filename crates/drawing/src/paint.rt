@@ -34,7 +34,7 @@ impl Canvas {
         }
     }
 
-    // Only dots of the clip are looked at.
+    // Only dots of the clip are looked at. Places are counted, of no list.
     #[tactic(auto, using(crate::proofs::Steps::rule_more))]
     pub(crate) fn fill<P: Picture>(&mut self, clip: Clip, picture: &P, at: Corner)
         ensures { Drawn self.old (clipped (placed (P.means picture.now) at.x.at at.y.at) (area clip)) self.new }

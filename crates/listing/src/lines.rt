@@ -7,7 +7,7 @@ ghost use Rattle.listing.specs.Listing.{dec, hex, wide, Writable, Begins, Four, 
 use crate::record::Record;
 use ssd1329::Transfer;
 
-// The number of a hexadecimal digit, 0 to 9 or A to F.
+// The number of a hexadecimal digit, 0 to 9 or A to F; the library reads small letters too.
 fn hex_digit(b: u8) -> Option<u8>
     ensures value { result ≡ digit_of_hex b }
     ensures written { MatchOption result ((d : ℕ) → d < 16 → b ≢ hex d) (λ d. (d < 16) × (b ≡ hex d)) }

@@ -7,6 +7,7 @@ use crate::record::Record;
 use refusal::Refusal;
 use ssd1329::Transfer;
 
+// A hexadecimal digit; the library writes those above 9 small.
 fn hex_char(d: u8) -> u8
     requires { d < 16 }
     ensures { result ≡ hex d }
@@ -36,7 +37,8 @@ fn put(out: &mut [u8], at: usize, bytes: &[u8]) -> Result<usize, Refusal>
     Ok(at + n)
 }
 
-// Writes the line of a record into the buffer at a place; the answer is where it ends.
+// Writes the line of a record into the buffer at a place; the answer is where it ends. The buffer is fixed memory of the
+// caller, who keeps the place.
 // A grant outside 1 to 9,999 is refused, then a buffer that is too short.
 pub fn write_record(out: &mut [u8], at: usize, r: Record) -> Result<usize, Refusal>
     ensures { RecordWritten out.old at r out.new result }

@@ -1,4 +1,5 @@
-// The edges of every refusal, and of a script's room, through public calls.
+// The edges of every refusal, and of a script's room, through public calls. Each function is given the allocator and
+// the tally: as methods of both, most lines would be longer.
 use crate::tally::Tally;
 use drawing::{Pen, Rectangle};
 use link::{Link, ListingLink, Panel};

@@ -18,6 +18,7 @@ pub fn first_run(w: u64) -> Option<Run>
 }
 
 // The word without its m marks from start on; the word as it was, if they are not all within it.
+// Two numbers and no `Run`, since they may be any.
 pub fn cleared(w: u64, start: u32, m: u32) -> u64
     ensures { Clearing w start m result }
 {

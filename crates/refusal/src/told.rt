@@ -29,7 +29,7 @@ impl Refusal {
     }
 }
 
-// The words that go with a number.
+// The words that go with a number: a table of its own, since the numbers are promised and the words are not.
 fn words(r: Refusal) -> &'static str {
     match r {
         Refusal::InUse => "slot open, or link not fresh",

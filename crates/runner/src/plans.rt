@@ -7,6 +7,7 @@ use screen::Call;
 use script::{Figure, Line};
 use std::alloc::{AllocError, Global};
 
+// Two lists of two lengths, since a line that is refused has no call.
 // The calls of some lines; and for each line why it has none, or nothing where it has one.
 #[derive(Drop)]
 pub struct Plan {

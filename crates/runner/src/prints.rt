@@ -1,4 +1,4 @@
-// What a script is answered, as text. No contract speaks of a stream, so what is written is tested.
+// What a script is answered, as text, which is tested.
 use crate::printed::Printed;
 use crate::runs::{Outcome, run};
 use crate::wanted::Wanted;

@@ -31,7 +31,7 @@ impl<L: Link> Slot<'_, L> {
     }
 }
 
-// The command that closes a flush.
+// The command that closes a flush, by two facts of the screen that no value goes with.
 fn closing_byte(lit: bool, all: bool) -> u8
     ensures { result ≡ closing lit all }
 {

@@ -87,6 +87,7 @@ impl<L: Link> Slot<'_, L> {
         ensures boxed { InOneBlock due.old self.old.left due.new self.new.left }
         ensures wide { length canvas.now ≡ 8192 }
     {
+        // By number: a block takes marks of the lines below too, and a line is looked at again until it has no run.
         for y in 0..128u8 {
             while let Some(run) = first_run(due[y as usize]) {
                 if self.left < 8 {

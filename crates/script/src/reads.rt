@@ -15,6 +15,7 @@ fn read_lines(heap: Global, mut text: Ahead<'_>) -> Result<Vec<Line>, Unread>
     ensures { Answers lines_mean (calls_from 3 (ahead text.entry)) result }
 {
     let mut lines = Vec::new(heap);
+    // no `for`: bytes after the last newline are no end, but a line that cannot be read
     while !text.ended() {
         let number = 3 + lines.len() as u32;
         let line = text.next().ok_or(Unread::BadLine(number))?;

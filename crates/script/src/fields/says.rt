@@ -31,6 +31,7 @@ impl<'a> Fields<'a> {
         }
     }
 
+    // Two numbers of one kind, as `extent` has two of another: one function for both would be no shorter.
     pub fn corner(&mut self) -> Result<Corner, Fault>
         ensures { Takes (λ x. x) corner self.old self.new result }
     {

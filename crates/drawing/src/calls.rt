@@ -1,4 +1,4 @@
-// The drawing calls on a canvas.
+// The drawing calls on a canvas. They take plain numbers, as callers have them; inside those are a corner and a rectangle.
 ghost use Rattle.std.specs.Prelude.{◌≤◌};
 ghost use Rattle.drawing.specs.Book.{bars, dots, places, ByTheBook};
 ghost use Rattle.drawing.specs.Drawing.{DotStep, BarStep, PlaceStep};

@@ -1,8 +1,9 @@
-// Filling an area of the canvas with what a picture has for it.
-ghost use Rattle.std.specs.Prelude.{◌≡◌, ℕ, ◌<◌, ◌≤◌, pos, negsuc, ◌-ℤ◌, ◌≤ℤ◌};
+// Filling an area of the canvas with what a picture has for it. The picture and its corner are handed down side by side:
+// in a struct each clause would be longer by its name.
+ghost use Rattle.std.specs.Prelude.{◌≡◌, ◌<◌};
 ghost use Rattle.picture.specs.Pictures.{Shade};
 ghost use Rattle.drawing.specs.Clips.{area};
-ghost use Rattle.drawing.specs.Drawing.{Drawn, behind, placed, lined, clipped};
+ghost use Rattle.drawing.specs.Drawing.{Drawn, placed, lined, clipped};
 
 use crate::canvas::{Canvas, Dot};
 use crate::clip::Clip;

@@ -75,7 +75,7 @@ fn clear_dots_and_dots_outside_stay(rt: HostRuntime) -> Result<(), Fail> {
     let mut c = Canvas::new();
     let pen = Pen::new();
     let bytes: &[u8] = &[0x39];
-    let pair = GrayPicture::new(bytes, 2, 1).map_err(|_| Fail::new("picture refused"))?;
+    let pair = GrayPicture::new(bytes, 2, 1).map_err(Refusal::from)?;
     assert_eq!(rt; c.place(&pen, &pair, -1, 127), Ok(()));
     assert_eq!(rt; c.gray(0, 127), Ok(9));
     assert_eq!(rt; dots(&c, 3), 0);

@@ -1,7 +1,6 @@
 // Draws a label, and prints the part of the drawing that has it: a hexadecimal digit a dot, a point for gray 0.
 #![tactic(auto)]
 
-use anyhow::anyhow;
 use drawing::{Pen, Rectangle};
 use link::ListingLink;
 use picture::{BitPicture, Picture};
@@ -55,9 +54,7 @@ fn print(rt: &HostRuntime, screen: &Screen<ListingLink>) -> anyhow::Result<()> {
 
 fn show(rt: &HostRuntime) -> anyhow::Result<()> {
     let link = ListingLink::new(vec![in rt.alloc(); 0u8; 64]?);
-    let mut screen = Screen::new(Wiring::plain(), link).map_err(|_| anyhow!(
-        "a fresh link is refused"
-    ))?;
+    let mut screen = Screen::new(Wiring::plain(), link).map_err(Refusal::from)?;
     let mut pen = Pen::new();
     if let Err(refusal) = draw(&mut screen, &mut pen) {
         println!(rt; "{refusal}")?;

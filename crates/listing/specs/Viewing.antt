@@ -1,5 +1,6 @@
 -- What is written of a text: where it is refused, or what a module shows once it is replayed. Assumes nothing.
-use Rattle.std.specs.Prelude.{ℕ, zero, suc, List, [], ◌∷◌, ◌++◌, decimal}
+use Rattle.std.specs.Prelude.{ℕ, zero, suc, List, [], ◌∷◌, ◌++◌, Option, Result, OnOk, decimal}
+use Rattle.std.specs.Io.KnownBytes.{Appends}
 use Rattle.refusal.specs.Numbers.{bad_listing_number}
 use Rattle.ssd1329.specs.declared.shows.Shows.{Shows}
 use Rattle.ssd1329.specs.declared.shows.Shows.TheVariants.{Astray, Dark, Lit}
@@ -7,6 +8,10 @@ use Rattle.ssd1329.specs.Chip.{Chip}
 use Rattle.ssd1329.specs.Glass.{Wires, shown}
 use Rattle.ssd1329.specs.RowText.{row_text}
 use Rattle.ssd1329.specs.ShowsWords.{shows_word}
+
+-- a call wrote the text, unless it reports an error; nothing is said of a writer whose contents are not known
+abbrev pub Writes : {W A E : Type 0} → (W → Option (List ℕ)) → W → W → List ℕ → Result A E → Type 0
+Writes contents before after text r = OnOk r (Appends (contents before) (contents after) text)
 
 -- the refusal's number, a tab, the place and a newline
 abbrev pub refusal_line : ℕ → List ℕ

@@ -70,7 +70,8 @@ pub fn width(r: Record) -> usize
     }
 }
 
-// The slot after a record, where the record may follow: none if closed, else how many transfers are left.
+// The slot after a record, none if closed, else how many transfers are left; no slot at all where the record may not
+// follow.
 pub fn follow(slot: Option<u16>, r: Record) -> Option<Option<u16>>
     ensures { result ≡ (if allowed slot r then Some (slot_then slot r) else None) }
 {

@@ -1,5 +1,5 @@
 // A listing, read line by line.
-ghost use Rattle.std.specs.Prelude.{◌≡◌, ℕ, ◌+◌, ◌<◌, ◌≤◌, true, [], ◌∷◌, ◌++◌, length, take, Some, None};
+ghost use Rattle.std.specs.Prelude.{◌≡◌, ◌<◌, ◌≤◌, true, length, take, None};
 ghost use Rattle.listing.specs.Listing.{text as spelling, fits, slot_after};
 ghost use Rattle.listing.specs.ReadBack.{listed};
 

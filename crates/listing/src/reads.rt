@@ -1,4 +1,4 @@
-// Reading a whole text.
+// Reading a whole text. The text and the controller are two things of a caller, and lent apart.
 ghost use Rattle.std.specs.Prelude.{◌≡◌};
 ghost use Rattle.ssd1329.specs.Meaning.{chip};
 ghost use Rattle.listing.specs.Replay.{met, Read, Checked};

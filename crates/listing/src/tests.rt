@@ -9,10 +9,7 @@ use std::test::Fail;
 
 // The place of the first bad line, or none.
 fn bad(text: &[u8]) -> Option<usize> {
-    match checked(text) {
-        Ok(()) => None,
-        Err(e) => Some(e.place),
-    }
+    checked(text).err().map(|bad| bad.place)
 }
 
 #[test]
@@ -47,9 +44,7 @@ fn a_text_may_be_65535_bytes_long(rt: HostRuntime) -> Result<(), Fail> {
 
 #[test]
 fn a_bad_text_gives_nothing(rt: HostRuntime) -> Result<(), Fail> {
-    let Ok(mut c) = Controller::new(vec![in rt.alloc(); 0u8; 8192]?) else {
-        return Err(Fail::new("refused"));
-    };
+    let mut c = Controller::blank(rt.alloc())?;
     assert!(rt; replay(b"O\t0009\nC\tAF\nZ\nZ\n", &mut c).is_err());
     assert_eq!(rt; c.shows(), Shows::Dark);
     assert!(rt; replay(b"O\t0009\nC\tAF\nZ\n", &mut c).is_ok());

@@ -15,7 +15,7 @@ fn answered(heap: Global, text: &[u8], wanted: Wanted) -> anyhow::Result<Vec<u8>
 
 pub fn try_lives(rt: &HostRuntime) -> anyhow::Result<Tally> {
     let heap = rt.alloc();
-    let mut tally = Tally::new();
+    let mut tally = Tally::default();
     for n in 0..LIVES {
         let text = fs::read(rt, format!(in heap; "l{n:03}.scr")?)?;
         let answers = fs::read(rt, format!(in heap; "l{n:03}.ans")?)?;

@@ -26,7 +26,7 @@ impl Numbered for FlushFault {
     }
 }
 
-#[derive(Clone, Copy)]
+#[derive(Clone, Copy, Default)]
 pub struct Tally {
     tried: u32,
     differ: u32,
@@ -35,14 +35,6 @@ pub struct Tally {
 }
 
 impl Tally {
-    pub fn new() -> Tally {
-        Tally {
-            tried: 0,
-            differ: 0,
-            first: None,
-        }
-    }
-
     // One case, and whether it came out as it should.
     pub fn case(&mut self, agrees: bool) {
         if !agrees {

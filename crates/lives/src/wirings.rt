@@ -2,7 +2,6 @@
 ghost use Rattle.std.specs.Prelude.{◌<◌};
 
 use crate::tally::Tally;
-use anyhow::anyhow;
 use drawing::Pen;
 use link::Panel;
 use picture::{GrayPicture, Picture as _};
@@ -27,7 +26,7 @@ fn whole_picture(heap: Global) -> anyhow::Result<Picture> {
             bytes.push(wanted(2 * k, y) * 16 + wanted(2 * k + 1, y))?;
         }
     }
-    GrayPicture::new(bytes, 128, 128).map_err(|_| anyhow!("the picture is refused"))
+    Ok(GrayPicture::new(bytes, 128, 128).map_err(Refusal::from)?)
 }
 
 // The panel of a module on which the picture was drawn and flushed.
@@ -54,7 +53,7 @@ fn comes_out(heap: Global, wiring: Wiring, picture: &Picture) -> Result<bool, Al
 
 pub fn try_wirings(heap: Global) -> anyhow::Result<Tally> {
     let picture = whole_picture(heap)?;
-    let mut tally = Tally::new();
+    let mut tally = Tally::default();
     for comb in [false, true] {
         for flipped in [false, true] {
             for mirrored in [false, true] {

@@ -1,4 +1,4 @@
-// The kinds of pictures. Every value of each means a lawful picture (specs/Kinds.antt).
+// The kinds of pictures. Every value of each means a lawful picture (specs/Lawfulness.antt).
 ghost use Rattle.std.specs.Prelude.{◌+◌, ◌≤◌};
 
 use crate::packed::Layout;

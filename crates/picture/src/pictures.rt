@@ -1,4 +1,4 @@
-// What every picture answers.
+// What every picture answers. Places and sizes are plain numbers in public calls, as callers have them.
 ghost use Rattle.std.specs.Prelude.{◌≡◌};
 ghost use Rattle.picture.specs.Pictures.{PictureMeaning, Lawful, dot_answer};
 

@@ -1,5 +1,5 @@
 // A picture's width and height.
-ghost use Rattle.std.specs.Prelude.{◌≡◌, ◌&&◌, ◌≤◌, ◌↔◌, nat_lt, IsTrue, IfSome, IsSome, if◌then◌else◌, Ok, Err};
+ghost use Rattle.std.specs.Prelude.{◌≡◌, ◌&&◌, ◌↔◌, nat_lt, IsTrue, IfSome, IsSome, if◌then◌else◌, Ok, Err};
 ghost use Rattle.refusal.specs.declared.refusals.Refusal.TheVariants.{OutsidePicture};
 ghost use Rattle.picture.specs.Pictures.{Extent};
 ghost use Rattle.picture.specs.Packed.{sized};

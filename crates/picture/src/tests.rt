@@ -12,7 +12,7 @@ const GRAYS: &[u8] = &[0x1f, 0x50, 0xa7, 0xc0];
 
 #[test]
 fn a_bit_picture_has_its_gray_where_a_bit_is_1(rt: HostRuntime) -> Result<(), Fail> {
-    let picture = BitPicture::new(BITS, 10, 2, 9).map_err(|_| Fail::new("refused"))?;
+    let picture = BitPicture::new(BITS, 10, 2, 9).map_err(Refusal::from)?;
     assert_eq!(rt; picture.width(), 10);
     assert_eq!(rt; picture.height(), 2);
     assert_eq!(rt; picture.dot(2, 0)?, Some(9));
@@ -25,8 +25,8 @@ fn a_bit_picture_has_its_gray_where_a_bit_is_1(rt: HostRuntime) -> Result<(), Fa
 
 #[test]
 fn a_crop_of_a_bit_picture_is_its_right_edge(rt: HostRuntime) -> Result<(), Fail> {
-    let picture = BitPicture::new(BITS, 10, 2, 9).map_err(|_| Fail::new("refused"))?;
-    let crop = Crop::new(picture, 7, 0, 3, 2).map_err(|_| Fail::new("refused"))?;
+    let picture = BitPicture::new(BITS, 10, 2, 9).map_err(Refusal::from)?;
+    let crop = Crop::new(picture, 7, 0, 3, 2).map_err(Refusal::from)?;
     assert_eq!(rt; crop.dot(1, 0)?, None);
     assert_eq!(rt; crop.dot(2, 0)?, Some(9));
     assert_eq!(rt; crop.dot(0, 1)?, Some(9));
@@ -53,8 +53,8 @@ fn an_inverse_has_15_less_the_gray(rt: HostRuntime) -> Result<(), Fail> {
 
 #[test]
 fn one_of_two_kinds_is_what_it_holds(rt: HostRuntime) -> Result<(), Fail> {
-    let bits = BitPicture::new(BITS, 10, 2, 9).map_err(|_| Fail::new("refused"))?;
-    let grays = GrayPicture::new(GRAYS, 3, 2).map_err(|_| Fail::new("refused"))?;
+    let bits = BitPicture::new(BITS, 10, 2, 9).map_err(Refusal::from)?;
+    let grays = GrayPicture::new(GRAYS, 3, 2).map_err(Refusal::from)?;
     let mut picture = Either::Left(bits);
     assert_eq!(rt; picture.width(), 10);
     assert_eq!(rt; picture.dot(9, 0)?, Some(9));

@@ -1,7 +1,7 @@
 // What a caller is told when a call is refused.
 //
 // The list is closed. Each case has a number of its own (docs/REFUSALS.md), and the number is
-// written once, in specs/Numbers.antt. A refusal leaves everything as it was.
+// defined once, in specs/Numbers.antt. A refusal leaves everything as it was.
 #![tactic(auto)]
 
 mod bad_listing;

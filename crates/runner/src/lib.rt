@@ -7,6 +7,8 @@ mod plans;
 mod printed;
 mod prints;
 mod runs;
+#[cfg(test)]
+mod tests;
 mod wanted;
 
 pub use prints::bench;

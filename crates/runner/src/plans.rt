@@ -1,5 +1,5 @@
 // What a script's lines ask for.
-ghost use Rattle.std.specs.Prelude.{◌≡◌, IfOk};
+ghost use Rattle.std.specs.Prelude.{IfOk};
 ghost use Rattle.runner.specs.Plans.{Planned};
 
 use refusal::Refusal;

@@ -1,8 +1,7 @@
-// What a script is answered, as text, which is tested.
+// What a script is answered, as text, which is tested. The allocator and the writer are handed down, as in the library.
 use crate::printed::Printed;
 use crate::runs::{Outcome, run};
 use crate::wanted::Wanted;
-use anyhow::anyhow;
 use link::ListingLink;
 use listing::{replay, view_on};
 use script::{Script, Unread, read};
@@ -57,6 +56,7 @@ fn write_wanted<W: Write>(
         Wanted::Glass => view_on(text, wiring, &mut Controller::blank(heap)?, out)?,
         Wanted::Image => {
             let mut controller = Controller::blank(heap)?;
+            // never refused: a link's text is a listing
             let _ = replay(text, &mut controller);
             write_image(out, &controller, wiring)?;
         }
@@ -75,6 +75,7 @@ fn write_script<W: Write>(
         buffer,
         lines,
     } = script;
+    // What is refused is what was asked for here, and no error.
     let wiring = match Wiring::try_from(card) {
         Ok(wiring) => wiring,
         Err(refusal) => return Ok(writeln!(out, "{}", refusal.number())?),
@@ -99,8 +100,7 @@ pub fn bench<W: Write>(
     out: &mut W,
 ) -> anyhow::Result<()> {
     match read(heap, text) {
-        Ok(script) => write_script(heap, script, wanted, out),
         Err(Unread::BadLine(number)) => Ok(writeln!(out, "line\t{number}")?),
-        Err(Unread::NoMemory) => Err(anyhow!("no memory for the script")),
+        script => write_script(heap, script?, wanted, out),
     }
 }

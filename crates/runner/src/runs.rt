@@ -1,5 +1,5 @@
 // Running a script's lines.
-ghost use Rattle.std.specs.Prelude.{◌≡◌, IfOk, None, vec_len};
+ghost use Rattle.std.specs.Prelude.{IfOk, None, vec_len};
 ghost use Rattle.ssd1329.specs.Chip.{blank};
 ghost use Rattle.ssd1329.specs.Meaning.{wires};
 ghost use Rattle.link.specs.Listed.{listing_meaning};
@@ -16,7 +16,7 @@ use script::Line;
 use ssd1329::Wiring;
 use std::alloc::{AllocError, Global};
 
-// What a script has answered, and the link that it was sent on.
+// What a script has answered, and the link that it was sent on. Two lists, since a line that is refused has no answer.
 #[derive(Drop)]
 pub struct Outcome {
     // of the lines that have calls

@@ -47,6 +47,8 @@ fn screen_on(wiring: Wiring, transfers: u32, rt: &HostRuntime) -> Result<Screen<
         Ok(screen) => Ok(screen),
         Err(_) => Err(Fail::new("refused")),
     }
+    let panel = Panel::new(vec![in rt.alloc(); 0x55u8; 8192]?, transfers);
+    Screen::new(wiring, panel).map_err(Refusal::from)
 }
 
 #[test]
@@ -100,6 +102,7 @@ fn a_wiring_costs_its_settings_once(rt: HostRuntime) -> Result<(), Fail> {
     let Ok(wiring) = Wiring::new(true, true, true, 5) else {
         return Err(Fail::new("no wiring"));
     };
+    let wiring = Wiring::new(true, true, true, 5)?;
     let mut screen = screen_on(wiring, 20000, &rt)?;
     let pen = Pen::new();
     assert_eq!(rt; screen.dot(&pen, 3, 9), Ok(()));

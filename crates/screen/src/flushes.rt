@@ -86,7 +86,7 @@ impl<L: Link> Screen<L> {
     {
         let grant = self.link.open(n)?;
         if self.lit && complete(self.owed, all_due(&self.canvas.due)) {
-            let _ = self.link.close();
+            self.link.close().unwrap();
             return Ok(0);
         }
         let mut slot = Slot {
@@ -102,7 +102,7 @@ impl<L: Link> Screen<L> {
         let last = closing_byte(self.lit, all);
         slot.send(Transfer::Command(last));
         let count = grant - slot.left;
-        let _ = self.link.close();
+        self.link.close().unwrap();
         self.lit = lit_after(self.lit, all);
         self.owed = owed;
         told(all, count, rest, &self.canvas.due)

@@ -5,6 +5,7 @@ use crate::scripts::{Answer, Call};
 use drawing::Pen;
 use link::Panel;
 use picture::{GrayPicture, Picture as _};
+use refusal::Refusal;
 use ssd1329::Wiring;
 use std::alloc::Global;
 use std::test::Fail;
@@ -42,6 +43,7 @@ fn narrowings_nest_and_end_with_the_script(rt: HostRuntime) -> Result<(), Fail> 
         return Err(Fail::new("no picture"));
     };
     let mut screen = Screen::new(Wiring::plain(), panel).map_err(|_| Fail::new("refused"))?;
+    let mut screen = Screen::new(Wiring::plain(), panel).map_err(Refusal::from)?;
     let picture = GrayPicture::new(vec![in heap; 0x9Au8]?, 2, 1).map_err(|_| Fail::new(
         "no picture",
     ))?;

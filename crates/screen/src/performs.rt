@@ -18,7 +18,7 @@ fn note(answers: &mut Vec<Answer>, answer: Answer)
     ensures len { vec_len answers.new ≡ vec_len answers.old + 1 }
     ensures capacity { vec_capacity answers.old ≤ vec_capacity answers.new }
 {
-    let _ = answers.push(answer);
+    answers.push(answer).unwrap();
 }
 
 // Makes the calls up to an end that none of their narrowings matches, or all: whether there was such an end.

@@ -12,7 +12,7 @@ impl<L: Link> Slot<'_, L> {
         requires { 0 < self.old.left }
         ensures { Sends L.Link self.old (transfer ∷ []) self.new }
     {
-        let _ = self.link.send(transfer);
+        self.link.send(transfer).unwrap();
         self.left -= 1;
     }
 

@@ -1,4 +1,4 @@
-// Sending due bytes as blocks.
+// Sending due bytes as blocks. The marks are the array that a canvas has as a public field.
 ghost use Rattle.std.specs.Prelude.{◌≡◌, ℕ, ◌+◌, ◌-◌, ◌/◌, ◌^◌, ◌<◌, ◌≤◌, length, slice_index};
 ghost use Rattle.marks.specs.Marks.{First};
 ghost use Rattle.marks.specs.Blocks.{area, parts, words, bytes_due, Part, Clears};
@@ -79,7 +79,7 @@ impl<L: Link> Slot<'_, L> {
     }
 
     // Sends due bytes while there is room for them, and keeps one transfer.
-    // Cells are lent for reading and marks for writing, so they do not come as one.
+    // By their lending cells stay and marks change, so they do not come as one.
     pub(crate) fn sweep(&mut self, canvas: &[u8; 8192], due: &mut [u64; 128])
         requires { 0 < self.old.left }
         ensures same_link { self.new.link.ghost_name ≡ self.old.link.ghost_name }

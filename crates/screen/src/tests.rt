@@ -26,6 +26,7 @@ fn a_screen_draws_and_gives_its_link_back(rt: HostRuntime) -> Result<(), Fail> {
     let Ok(mut screen) = Screen::new(Wiring::plain(), panel) else {
         return Err(Fail::new("refused"));
     };
+    let mut screen = Screen::new(Wiring::plain(), panel).map_err(Refusal::from)?;
     let pen = Pen::new();
     assert_eq!(rt; screen.bar(&pen, 3, 5, 2, 1), Ok(()));
     assert_eq!(rt; screen.gray(4, 5), Ok(15));

@@ -55,6 +55,7 @@ pub fn read_line(heap: Global, text: &[u8]) -> Result<Line, Fault>
 {
     let mut fields = Fields::of(text);
     let verb = fields.read()?;
+    // a refused picture is an answer too, once the line is read to its end
     match take_call(heap, verb, &mut fields) {
         Ok(call) => fields.end(Ok(call)),
         Err(Unmade::Refused(refusal)) => fields.end(Err(refusal)),

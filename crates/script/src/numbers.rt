@@ -12,7 +12,7 @@ fn with_digit(n: u32, c: u8) -> Option<u32>
     n.checked_mul(10)?.checked_add(digit)
 }
 
-// A number of digits alone.
+// A number of digits alone; the library's `parse` reads a plus too.
 impl Field for u32 {
     ghost says = { unsigned };
 

@@ -10,7 +10,7 @@ use std::alloc::AllocFailed;
 use std::error::Error;
 use std::fmt;
 
-// The card of a module, as it is written; its shift is not judged yet.
+// The card of a module, as it is written; its shift is not judged yet. Callers read its marks one by one.
 #[derive(Clone, Copy, PartialEq, Eq, Debug)]
 pub struct Card {
     pub mirrored: bool,

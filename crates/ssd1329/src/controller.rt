@@ -21,13 +21,13 @@ pub(crate) enum Awaited {
     Mux,
 }
 
-// A place that goes from a first one to a last one and begins again; none is beyond END.
+// A place that goes from a first one to a last one and begins again; none is beyond LAST.
 #[derive(Drop)]
-pub(crate) struct Pointer<const END: u8> {
+pub(crate) struct Pointer<const LAST: u8> {
     first: u8,
     last: u8,
     at: u8,
-    ghost within: { (first ≤ at) × (at ≤ last) × (last ≤ END) },
+    ghost within: { (first ≤ at) × (at ≤ last) × (last ≤ LAST) },
 }
 
 // The part of the memory that data bytes fill, and the place of the next byte.

@@ -2,11 +2,11 @@
 // changes and of a whole frame.
 #![tactic(auto)]
 
-use anyhow::{Context, anyhow};
+use anyhow::Context;
 use drawing::Pen;
 use link::ListingLink;
 use refusal::Refusal;
-use screen::Screen;
+use screen::{FlushFault, Screen};
 use ssd1329::Wiring;
 use std::alloc::{AllocError, Global};
 
@@ -42,9 +42,7 @@ struct Sheet {
 impl Sheet {
     fn fresh(heap: Global) -> anyhow::Result<Sheet> {
         let link = ListingLink::new(vec![in heap; 0u8; 65535]?);
-        let screen = Screen::new(Wiring::plain(), link).map_err(|_| anyhow!(
-            "a fresh link is refused"
-        ))?;
+        let screen = Screen::new(Wiring::plain(), link).map_err(Refusal::from)?;
         Ok(Sheet {
             screen,
             pen: Pen::new(),
@@ -119,15 +117,8 @@ impl Sheet {
     }
 
     // How many transfers a flush takes.
-    fn sent(&mut self, rt: &HostRuntime) -> anyhow::Result<u32> {
-        match self.screen.flush(9999) {
-            Ok(count) => Ok(count),
-            // said before the program ends
-            Err(fault) => {
-                println!(rt; "{fault}")?;
-                Err(anyhow!("the flush is not done"))
-            }
-        }
+    fn sent(&mut self) -> Result<u32, FlushFault> {
+        self.screen.flush(9999)
     }
 }
 
@@ -162,12 +153,12 @@ fn show<F: FnOnce(&mut Sheet) -> Result<(), Refusal>>(
     let heap = rt.alloc();
     let mut sheet = Sheet::fresh(heap)?;
     sheet.before().context("a drawing call is refused")?;
-    sheet.sent(rt)?;
+    sheet.sent()?;
     let before = sheet.grays(heap)?;
     change(&mut sheet).context("a drawing call is refused")?;
     let after = sheet.grays(heap)?;
     let boxed = one_box(before.as_slice(), after.as_slice());
-    let sent = sheet.sent(rt)?;
+    let sent = sheet.sent()?;
     println!(rt; "{name}\t{sent}\t{boxed}\t{FRAME}")?;
     Ok(())
 }
@@ -183,7 +174,7 @@ fn show_all(rt: &HostRuntime) -> anyhow::Result<()> {
     show(rt, "growing weight bar", |sheet| sheet.weight(46))?;
     show(rt, "diagonal", Sheet::diagonal)?;
     show(rt, "outline", Sheet::outline)?;
-    let sent = Sheet::fresh(rt.alloc())?.sent(rt)?;
+    let sent = Sheet::fresh(rt.alloc())?.sent()?;
     println!(rt; "full frame\t{sent}\t{FRAME}\t{FRAME}")?;
     Ok(())
 }

@@ -1,10 +1,7 @@
 // The beginning and the end of a panel.
-ghost use Rattle.std.specs.Prelude.{◌≡◌, true, length, if◌then◌else◌, Ok, Err, vec_len, nat_eq};
+ghost use Rattle.std.specs.Prelude.{◌≡◌, length, if◌then◌else◌, Ok, Err, nat_eq};
 ghost use Rattle.refusal.specs.declared.refusals.Refusal.TheVariants.{Memory};
-ghost use Rattle.ssd1329.specs.Chip.{blank};
-ghost use Rattle.ssd1329.specs.Fresh.{is_reset};
-ghost use Rattle.ssd1329.specs.Meaning.{chip};
-ghost use Rattle.link.specs.Panels.{panel_meaning, seat_memory, fresh_link, NewPanel};
+ghost use Rattle.link.specs.Panels.{panel_meaning, seat_memory, NewPanel};
 
 use super::Panel;
 use refusal::Refusal;

@@ -1,5 +1,5 @@
 // Reading on.
-ghost use Rattle.std.specs.Prelude.{◌≡◌, ◌≤◌};
+ghost use Rattle.std.specs.Prelude.{◌≡◌};
 ghost use Rattle.listing.specs.Reading.{Next};
 
 use super::Reader;

@@ -1,4 +1,4 @@
-// The drawing calls of a screen, each with a pen. They leave the link alone.
+// The drawing calls of a screen, each with a pen, in the plain numbers of the canvas. They leave the link alone.
 ghost use Rattle.std.specs.Prelude.{◌≡◌, ◌&&◌, if◌then◌else◌, Ok, Err, nat_lt};
 ghost use Rattle.refusal.specs.declared.refusals.Refusal.TheVariants.{Position};
 ghost use Rattle.drawing.specs.Book.{dots, bars, places};

@@ -1,4 +1,5 @@
-// Pictures, as the fields of a line say them. The allocator is handed to what allocates, as in the library.
+// Pictures, as the fields of a line say them. The allocator is handed to what
+// allocates: most lines allocate nothing, so their fields do not hold it.
 ghost use Rattle.script.specs.Figures.{bits, grays, base, shade, figure_by, figure};
 ghost use Rattle.script.specs.Meanings.{base_kind, shade_kind, figure_kind, made};
 ghost use Rattle.script.specs.Faults.{TakesOrRefuses};

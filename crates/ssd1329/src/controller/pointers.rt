@@ -5,10 +5,10 @@ ghost use Rattle.ssd1329.specs.Area.{whole, following, advanced};
 
 use super::{Pointer, Window};
 
-impl<const END: u8> Pointer<END> {
+impl<const LAST: u8> Pointer<LAST> {
     // A pointer at the first of its places.
     pub(super) fn new(first: u8, last: u8) -> Self
-        requires { (first ≤ last) × (last ≤ END) }
+        requires { (first ≤ last) × (last ≤ LAST) }
         ensures { (result.first ≡ first) × (result.last ≡ last) × (result.at ≡ first) }
     {
         Pointer {

@@ -1,7 +1,7 @@
 // What a transfer does, by the rules in their order.
 ghost use Rattle.std.specs.Prelude.{◌≡◌, true, Some, None};
 ghost use Rattle.ssd1329.specs.Meaning.{chip};
-ghost use Rattle.ssd1329.specs.Chip.{swapped, put, stored, lost, awaiting, asleep_or_awake, opcode_met, command_met, data_met, met, step};
+ghost use Rattle.ssd1329.specs.Chip.{swapped, put, stored, lost, awaiting, opcode_met, command_met, data_met, step};
 
 use super::{Awaited, Controller, Pointer};
 use crate::transfer::Transfer;

@@ -113,7 +113,8 @@ def facts():
     """Bounds that stand in the contracts of three or more functions of a crate."""
     by_fact = collections.defaultdict(list)
     for s, at, name, _, clauses, _ in FUNCTIONS:
-        for fact in set(re.sub(r'\b[a-z]\w*(\.\w+)*\b', '_', f) for f in re.findall(r'\(([^()]*[<≤][^()]*)\)', clauses)):
+        parts = [q.strip().strip('()').strip() for c in re.findall(r'\{([^{}]*)\}', clauses) for q in c.split('×')]
+        for fact in set(re.sub(r'\b[a-z]\w*(\.\w+)*\b', '_', f) for f in parts if re.search('[<≤]', f)):
             by_fact[(s.crate, fact)].append((s, at, name))
         for fact in set(re.findall(r'\b[A-Z]\w+ \([^)]*\)\.\w+', clauses)):
             by_fact[(s.crate, re.sub(r'\.(old|new|now)', '', fact))].append((s, at, name))
@@ -168,6 +169,7 @@ find(1, 'let .. else that hands an error or a none on', r'let [^;{]*? else \{\s*
 find(1, 'arm that hands an error or a none on', r'\b(Err\([^)]*\)|None|Some\(_\)) => (\{\s*)?(return )?(Err\(|None\b|Ok\(None\))')
 find(1, 'error found by is_err, is_none or is_some', r'\.is_(err|none|some)\(\)')
 find(1, 'error made at hand of an Err that is there', r'if let Err\(')
+find(1, 'error let go', r'let _ = |\.map_err\(\s*\|_\|')
 find(1, 'flag among the parameters', r'\bfn \w+(<[^(]*>)?\([^)]*: bool[^)]*\)')
 find(1, 'numbers for kinds', r'^(pub )?const (SET_\w+|SLEEP|WAKE|NOTHING): u8|which: usize|match which')
 shapes()

@@ -7,7 +7,7 @@ use refusal::Refusal;
 use std::test::Fail;
 
 fn rectangle(x: i32, y: i32, w: u32, h: u32) -> Result<Rectangle, Fail> {
-    Rectangle::new(x, y, w, h).map_err(|_| Fail::new("rectangle refused"))
+    Ok(Rectangle::new(x, y, w, h)?)
 }
 
 // How many dots of the canvas have a gray.

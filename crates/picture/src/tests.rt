@@ -39,9 +39,7 @@ fn a_crop_of_a_bit_picture_is_its_right_edge(rt: HostRuntime) -> Result<(), Fail
 
 #[test]
 fn an_inverse_has_15_less_the_gray(rt: HostRuntime) -> Result<(), Fail> {
-    let picture = GrayPicture::new(GRAYS.to_vec(rt.alloc())?, 3, 2).map_err(|_| Fail::new(
-        "refused",
-    ))?;
+    let picture = GrayPicture::new(GRAYS.to_vec(rt.alloc())?, 3, 2).map_err(Refusal::from)?;
     assert_eq!(rt; picture.dot(0, 0)?, Some(1));
     assert_eq!(rt; picture.dot(2, 1)?, Some(12));
     let inverse = Inverse::new(picture);

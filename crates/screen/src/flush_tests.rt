@@ -13,6 +13,7 @@ fn sent(answer: Result<u32, FlushFault>) -> Result<u32, Fail> {
         Ok(count) => Ok(count),
         Err(_) => Err(Fail::new("not done")),
     }
+    Ok(answer?)
 }
 
 fn first_left(
@@ -48,7 +49,7 @@ fn screen_on(wiring: Wiring, transfers: u32, rt: &HostRuntime) -> Result<Screen<
         Err(_) => Err(Fail::new("refused")),
     }
     let panel = Panel::new(vec![in rt.alloc(); 0x55u8; 8192]?, transfers);
-    Screen::new(wiring, panel).map_err(Refusal::from)
+    Ok(Screen::new(wiring, panel).map_err(Refusal::from)?)
 }
 
 #[test]

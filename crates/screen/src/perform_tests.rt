@@ -44,9 +44,7 @@ fn narrowings_nest_and_end_with_the_script(rt: HostRuntime) -> Result<(), Fail> 
     };
     let mut screen = Screen::new(Wiring::plain(), panel).map_err(|_| Fail::new("refused"))?;
     let mut screen = Screen::new(Wiring::plain(), panel).map_err(Refusal::from)?;
-    let picture = GrayPicture::new(vec![in heap; 0x9Au8]?, 2, 1).map_err(|_| Fail::new(
-        "no picture",
-    ))?;
+    let picture = GrayPicture::new(vec![in heap; 0x9Au8]?, 2, 1).map_err(Refusal::from)?;
     let script: Vec<Call<Picture>> = vec![in heap;
         Call::Narrow(0, 0, 8, 8),
         Call::Ink(7),

@@ -5,7 +5,8 @@ use crate::tally::Tally;
 use drawing::Pen;
 use link::Panel;
 use picture::{GrayPicture, Picture as _};
-use screen::Screen;
+use refusal::Refusal;
+use screen::{FlushFault, Screen};
 use ssd1329::Wiring;
 use std::alloc::{AllocError, Global};
 
@@ -30,15 +31,11 @@ fn whole_picture(heap: Global) -> anyhow::Result<Picture> {
 }
 
 // The panel of a module on which the picture was drawn and flushed.
-fn shown(heap: Global, wiring: Wiring, picture: &Picture) -> Result<Option<Panel>, AllocError> {
-    let panel = Panel::new(vec![in heap; 0xA5u8; 8192]?, 9999);
-    let Ok(mut screen) = Screen::new(wiring, panel) else {
-        return Ok(None);
-    };
-    if screen.place(&Pen::new(), picture, 0, 0).is_err() || screen.flush(9999).is_err() {
-        return Ok(None);
-    }
-    Ok(Some(screen.into_link()))
+fn shown(panel: Panel, wiring: Wiring, picture: &Picture) -> Result<Panel, FlushFault> {
+    let mut screen = Screen::new(wiring, panel).map_err(Refusal::from)?;
+    screen.place(&Pen::new(), picture, 0, 0)?;
+    screen.flush(9999)?;
+    Ok(screen.into_link())
 }
 
 fn agrees(panel: &Panel, wiring: &Wiring) -> bool {
@@ -47,8 +44,8 @@ fn agrees(panel: &Panel, wiring: &Wiring) -> bool {
 
 // Whether the drawing comes out on a module of that wiring.
 fn comes_out(heap: Global, wiring: Wiring, picture: &Picture) -> Result<bool, AllocError> {
-    let panel = shown(heap, wiring, picture)?;
-    Ok(panel.is_some_and(|panel| agrees(&panel, &wiring)))
+    let panel = Panel::new(vec![in heap; 0xA5u8; 8192]?, 9999);
+    Ok(shown(panel, wiring, picture).is_ok_and(|panel| agrees(&panel, &wiring)))
 }
 
 pub fn try_wirings(heap: Global) -> anyhow::Result<Tally> {

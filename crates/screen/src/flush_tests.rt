@@ -9,10 +9,6 @@ use std::process::Abort;
 use std::test::Fail;
 
 fn sent(answer: Result<u32, FlushFault>) -> Result<u32, Fail> {
-    match answer {
-        Ok(count) => Ok(count),
-        Err(_) => Err(Fail::new("not done")),
-    }
     Ok(answer?)
 }
 
@@ -41,13 +37,6 @@ fn refused(answer: Result<u32, FlushFault>) -> Result<Refusal, Fail> {
 
 // A new screen over a panel whose memory is full of fives.
 fn screen_on(wiring: Wiring, transfers: u32, rt: &HostRuntime) -> Result<Screen<Panel>, Fail> {
-    match Screen::new(
-        wiring,
-        Panel::new(vec![in rt.alloc(); 0x55u8; 8192]?, transfers),
-    ) {
-        Ok(screen) => Ok(screen),
-        Err(_) => Err(Fail::new("refused")),
-    }
     let panel = Panel::new(vec![in rt.alloc(); 0x55u8; 8192]?, transfers);
     Ok(Screen::new(wiring, panel).map_err(Refusal::from)?)
 }
@@ -100,9 +89,6 @@ fn a_cut_flush_tells_where_it_goes_on(rt: HostRuntime) -> Result<(), Fail> {
 
 #[test]
 fn a_wiring_costs_its_settings_once(rt: HostRuntime) -> Result<(), Fail> {
-    let Ok(wiring) = Wiring::new(true, true, true, 5) else {
-        return Err(Fail::new("no wiring"));
-    };
     let wiring = Wiring::new(true, true, true, 5)?;
     let mut screen = screen_on(wiring, 20000, &rt)?;
     let pen = Pen::new();

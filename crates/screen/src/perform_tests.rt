@@ -36,13 +36,6 @@ fn codes(heap: Global, answers: &Vec<Answer>) -> Result<Vec<u32>, Fail> {
 fn narrowings_nest_and_end_with_the_script(rt: HostRuntime) -> Result<(), Fail> {
     let heap = rt.alloc();
     let panel = Panel::new(vec![in heap; 0u8; 8192]?, 20000);
-    let Ok(mut screen) = Screen::new(Wiring::plain(), panel) else {
-        return Err(Fail::new("refused"));
-    };
-    let Ok(picture) = GrayPicture::new(vec![in heap; 0x9Au8]?, 2, 1) else {
-        return Err(Fail::new("no picture"));
-    };
-    let mut screen = Screen::new(Wiring::plain(), panel).map_err(|_| Fail::new("refused"))?;
     let mut screen = Screen::new(Wiring::plain(), panel).map_err(Refusal::from)?;
     let picture = GrayPicture::new(vec![in heap; 0x9Au8]?, 2, 1).map_err(Refusal::from)?;
     let script: Vec<Call<Picture>> = vec![in heap;

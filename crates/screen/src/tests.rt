@@ -23,9 +23,6 @@ fn a_link_that_is_in_use_is_handed_back(rt: HostRuntime) -> Result<(), Fail> {
 #[test]
 fn a_screen_draws_and_gives_its_link_back(rt: HostRuntime) -> Result<(), Fail> {
     let panel = Panel::new(vec![in rt.alloc(); 0u8; 8192]?, 100);
-    let Ok(mut screen) = Screen::new(Wiring::plain(), panel) else {
-        return Err(Fail::new("refused"));
-    };
     let mut screen = Screen::new(Wiring::plain(), panel).map_err(Refusal::from)?;
     let pen = Pen::new();
     assert_eq!(rt; screen.bar(&pen, 3, 5, 2, 1), Ok(()));

@@ -7,7 +7,7 @@ use Rattle.picture.specs.declared.kinds.BitPicture.{BitPicture}
 use Rattle.picture.specs.declared.kinds.GrayPicture.{GrayPicture}
 use Rattle.picture.specs.declared.kinds.Inverse.{Inverse}
 use Rattle.picture.specs.declared.kinds.Crop.{Crop}
-use Rattle.either.specs.declared.Either.{Either}
+use Rattle.picture.specs.declared.Either.{Either}
 use Rattle.picture.specs.Kinds.{bits_mean, grays_mean, inverse_means, crop_means, either_means}
 use Rattle.picture.specs.Lawfulness.{bits_lawful, grays_lawful, inverse_lawful, crop_lawful, either_lawful}
 use Rattle.script.specs.Figures.{Made}

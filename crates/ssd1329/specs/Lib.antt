@@ -8,6 +8,6 @@ pub mod Remap
 pub mod RowText
 pub mod RowTextCall
 pub mod Settings
-pub mod Text
 pub mod ShowsWords
+pub mod Text
 pub mod Wiring

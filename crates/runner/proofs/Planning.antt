@@ -1,10 +1,10 @@
 -- Lines, one after the other.
-use Rattle.std.proofs.Common.{◌≡◌, List, [], ◌∷◌, ◌++◌, Some, None, Option, Ok, Err, sym, ap, ◌∙◌, append_assoc, append-nil}
+use Rattle.std.proofs.Common.{◌≡◌, List, [], ◌∷◌, ◌++◌, None, Option, Ok, sym, ap, ◌∙◌, append_assoc}
 use Rattle.refusal.specs.declared.refusals.Refusal.{Refusal}
 use Rattle.screen.specs.declared.scripts.Call.{Call}
 use Rattle.script.specs.Calls.{Line}
 use Rattle.script.specs.Meanings.{Figure}
-use Rattle.runner.specs.Plans.{calls_of, refusals_of, Planned}
+use Rattle.runner.specs.Plans.{calls_of, refusals_of}
 
 -- of all lines, some are planned, and the rest is to come
 pub record Planning (all rest : List Line) (cs : List (Call Figure)) (rs : List (Option Refusal)) : Type 0 where
@@ -17,19 +17,4 @@ pub planning_made : (all rest more : List Line) (cs ds : List (Call Figure)) (rs
 planning_made all rest more cs ds rs ss c p is e f = record {
   calls_left = p.calls_left ∙ ap (λ x. cs ++ calls_of x) is ∙ sym (append_assoc cs (c ∷ []) (calls_of more)) ∙ ap (λ x. x ++ calls_of more) (sym e);
   refused_left = p.refused_left ∙ ap (λ x. rs ++ refusals_of x) is ∙ sym (append_assoc rs (None ∷ []) (refusals_of more)) ∙ ap (λ x. x ++ refusals_of more) (sym f);
-}
-
--- another has none
-pub planning_refused : (all rest more : List Line) (cs : List (Call Figure)) (rs ss : List (Option Refusal)) (why : Refusal) → Planning all rest cs rs → rest ≡ Err why ∷ more
-    → ss ≡ rs ++ Some why ∷ [] → Planning all more cs ss
-planning_refused all rest more cs rs ss why p is f = record {
-  calls_left = p.calls_left ∙ ap (λ x. cs ++ calls_of x) is;
-  refused_left = p.refused_left ∙ ap (λ x. rs ++ refusals_of x) is ∙ sym (append_assoc rs (Some why ∷ []) (refusals_of more)) ∙ ap (λ x. x ++ refusals_of more) (sym f);
-}
-
--- none is to come
-pub planned : (all rest lines : List Line) (cs : List (Call Figure)) (rs : List (Option Refusal)) → Planning all rest cs rs → rest ≡ [] → all ≡ lines → Planned lines cs rs
-planned all rest lines cs rs p none is = record {
-  calls_are = sym (ap calls_of (sym is) ∙ p.calls_left ∙ ap (λ x. cs ++ calls_of x) none ∙ append-nil cs);
-  refused_are = sym (ap refusals_of (sym is) ∙ p.refused_left ∙ ap (λ x. rs ++ refusals_of x) none ∙ append-nil rs);
 }

@@ -20,7 +20,7 @@ bits_mean k p = bit_picture (k.list p.bytes) p.layout.size.width p.layout.size.h
 abbrev pub grays_mean : {B : Type 0} → BytesGhosts B → GrayPicture B → PictureMeaning
 grays_mean k p = gray_picture (k.list p.bytes) p.layout.size.width p.layout.size.height
 
-abbrev pub crop_means : {P : Type 0} → (k : PictureGhosts P) → Crop P k → PictureMeaning
+abbrev pub crop_means : {P : Type 0} → PictureGhosts P → Crop P → PictureMeaning
 crop_means k c = part (k.means c.inner) c.left c.top c.size.width c.size.height
 
 abbrev pub inverse_means : {P : Type 0} → PictureGhosts P → Inverse P → PictureMeaning
@@ -55,10 +55,10 @@ GraysMade k bytes w h r =
     Made (gray_refusal (length (k.list bytes)) w h) (λ p. grays_mean k p ≡ gray_picture (k.list bytes) w h) bytes r
 
 -- a crop keeps its picture whole, means that part of it, and shows its own dots
-pub record Cropped {P : Type 0} (k : PictureGhosts P) (inner : P) (a b w h : ℕ) (c : Crop P k) : Type 0 where
+pub record Cropped {P : Type 0} (k : PictureGhosts P) (inner : P) (a b w h : ℕ) (c : Crop P) : Type 0 where
   pub keeps : c.inner ≡ inner
   pub means : crop_means k c ≡ part (k.means inner) a b w h
   pub shows : (x y : ℕ) → x < w → y < h → (crop_means k c).dot x y ≡ (k.means inner).dot (a + x) (b + y)
 
-abbrev pub CropMade : {P : Type 0} → (k : PictureGhosts P) → P → ℕ → ℕ → ℕ → ℕ → Result (Crop P k) (HandedBack P) → Type 0
+abbrev pub CropMade : {P : Type 0} → PictureGhosts P → P → ℕ → ℕ → ℕ → ℕ → Result (Crop P) (HandedBack P) → Type 0
 CropMade k inner a b w h r = Made (crop_refusal (k.means inner) a b w h) (Cropped k inner a b w h) inner r

@@ -42,7 +42,7 @@ unfolding packed
 grays_lawful k p =
     record { across = p.layout.size.across; down = p.layout.size.down; shades = λ x y _ _. omega arith }
 
-pub crop_lawful : {P : Type 0} (k : PictureGhosts P) (c : Crop P k) → Lawful (crop_means k c)
+pub crop_lawful : {P : Type 0} (k : PictureGhosts P) (c : Crop P) → Lawful (crop_means k c)
 crop_lawful k c =
     record {
       across = c.size.across;

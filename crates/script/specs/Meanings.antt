@@ -38,9 +38,9 @@ abbrev pub shade_kind : PictureGhosts Shade
 shade_kind = record { means = either_means base_kind inverse_kind; lawful = either_lawful base_kind inverse_kind }
 
 abbrev pub Figure : Type 0
-Figure = Either Shade (Crop Shade shade_kind)
+Figure = Either Shade (Crop Shade)
 
-abbrev pub crop_kind : PictureGhosts (Crop Shade shade_kind)
+abbrev pub crop_kind : PictureGhosts (Crop Shade)
 crop_kind = record { means = crop_means shade_kind; lawful = crop_lawful shade_kind }
 
 abbrev pub figure_kind : PictureGhosts Figure

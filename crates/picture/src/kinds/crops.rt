@@ -61,6 +61,7 @@ impl<P: Picture> Picture for Crop<P> {
 
     fn dot(&self, x: u32, y: u32) -> Result<Option<u8>, Refusal> {
         self.size.check_place(x, y)?;
-        self.inner.dot(self.left + x, self.top + y)
+        // never refused of a crop that lies inside
+        Ok(self.inner.dot(self.left + x, self.top + y).unwrap_or(None))
     }
 }

@@ -22,7 +22,7 @@ fn hex_digit(b: u8) -> Option<u8>
 fn digit(b: u8) -> Option<u8>
     ensures { MatchOption result ((d : ℕ) → d < 10 → b ≢ dec d) (λ d. (d < 10) × (b ≡ dec d)) }
 {
-    hex_digit(b).filter(|d| *d < 10)
+    b.checked_sub(b'0').filter(|d| *d < 10)
 }
 
 // The number that four decimal digits write.

@@ -4,8 +4,6 @@ use borrow.Rule.Slice.PartMut.{put_mid}
 use Rattle.std.proofs.lemmas.List.{append_assoc, drop-drop}
 use Rattle.std.proofs.lemmas.Bool.Decides.{nat_tests}
 use Rattle.std.proofs.lemmas.Grind.{common_steps}
-use Rattle.std.proofs.lemmas.Fmt.{decimal_digit, decimal_step}
-use Rattle.std.specs.Fmt.{decimal as std_decimal}
 use Rattle.ssd1329.specs.declared.controller.row_text.Text.{Text}
 use Rattle.ssd1329.specs.RowText.{decimal, dot_line, dot_text, text_before, written, Put}
 use Rattle.ssd1329.specs.Text.{Adds}
@@ -53,11 +51,6 @@ adds_then h p q = record { put = and_then h p.put q.put; same_length = q.same_le
 -- the same text, spelled otherwise
 pub adds_same : {t u : Text} {xs ys : List ℕ} → xs ≡ ys → Adds t u xs → Adds t u ys
 adds_same {t = t} {u = u} e p = subst (λ z. Adds t u z) e p
-
--- decimal digits, as std writes them
-pub decimal_is : (n : ℕ) → n < 1000 → std_decimal n ≡ decimal n
-unfolding decimal
-decimal_is n h = grind (arith, nat_tests, decimal_digit, decimal_step)
 
 pub decimal_short : (n : ℕ) → length (decimal n) ≤ 3
 unfolding decimal

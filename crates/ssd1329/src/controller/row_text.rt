@@ -7,7 +7,6 @@ ghost use Rattle.ssd1329.specs.RowTextCall.{RowWritten};
 use super::Controller;
 use crate::below::{Below, Gray, Position};
 use crate::wiring::Wiring;
-use itoa::Buffer;
 use refusal::Refusal;
 
 // The longest text of a row: 128 lines of at most 11 bytes.
@@ -33,14 +32,19 @@ impl<'a> Text<'a> {
         self.len = end;
     }
 
-    // A number in decimal digits. By itoa: the contract of `write!` lets any call fail.
-    #[tactic(auto, using(crate::proofs::Texts::decimal_is))]
+    // A number in decimal digits, by their count, which each copy then knows: a dot has three numbers, and the library's
+    // buffer of forty bytes took longer. The contract of `write!` lets any call fail.
+    #[tactic(auto, unfolding(crate::specs::RowText::decimal))]
     fn put_decimal(&mut self, n: u8)
         requires { self.old.len + 3 ≤ length self.old.buffer.now }
         ensures { Adds self.old self.new (decimal n) }
     {
-        let mut digits = Buffer::new();
-        self.put(digits.format(n).as_bytes());
+        let ones = b'0' + n % 10;
+        match n {
+            0..=9 => self.put(&[ones]),
+            10..=99 => self.put(&[b'0' + n / 10, ones]),
+            100.. => self.put(&[b'0' + n / 100, b'0' + n / 10 % 10, ones]),
+        }
     }
 
     // The line of a dot.

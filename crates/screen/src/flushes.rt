@@ -80,6 +80,8 @@ fn told(all: bool, count: u32, left: u32, due: &[u64; 128]) -> Result<u32, Flush
 
 impl<L: Link> Screen<L> {
     // Sends what is left to send over one slot of n transfers.
+    // It is not inlined: each narrowing that is open keeps the frame of the function that makes the calls inside it.
+    #[inline(never)]
     pub fn flush(&mut self, n: u32) -> Result<u32, FlushFault>
         ensures step { FlushStep (shows L.Link self.old) n result (shows L.Link self.new) }
         ensures window { WindowStep (shows L.Link self.old) n result (shows L.Link self.new) }

@@ -1,6 +1,7 @@
 // Performing a script: each call in its turn, a narrowed drawing under the guard that narrows the pen.
 ghost use Rattle.std.specs.Prelude.{◌≡◌, ◌+◌, ◌<◌, ◌≤◌, List, [], ◌∷◌, ◌++◌, length, if◌then◌else◌, IfOk, IfErr, vec_len, vec_capacity};
 ghost use Rattle.drawing.specs.Pens.{PenMeaning};
+ghost use Rattle.screen.specs.declared.scripts.Answer.TheVariants.{Judged};
 ghost use Rattle.screen.specs.Scripts.{world, Reached, Performed};
 
 use crate::screens::Screen;
@@ -8,6 +9,7 @@ use crate::scripts::{Answer, Call};
 use drawing::{Pen, Rectangle};
 use link::Link;
 use picture::Picture;
+use refusal::Refusal;
 use std::alloc::{AllocError, Global};
 use std::slice;
 
@@ -19,6 +21,18 @@ fn note(answers: &mut Vec<Answer>, answer: Answer)
     ensures capacity { vec_capacity answers.old ≤ vec_capacity answers.new }
 {
     answers.push(answer).unwrap();
+}
+
+// The same of what a call was judged. It is not inlined, nor is a flush: each narrowing that is open keeps the frame of
+// the function that makes the calls inside it, with room for every answer that is made there.
+#[inline(never)]
+fn judge(answers: &mut Vec<Answer>, judged: Result<(), Refusal>)
+    requires { vec_len answers.old < vec_capacity answers.old }
+    ensures items { answers.new.items ≡ answers.old.items ++ Judged judged ∷ [] }
+    ensures len { vec_len answers.new ≡ vec_len answers.old + 1 }
+    ensures capacity { vec_capacity answers.old ≤ vec_capacity answers.new }
+{
+    note(answers, Answer::Judged(judged));
 }
 
 // Makes the calls up to an end that none of their narrowings matches, or all: whether there was such an end.
@@ -39,19 +53,15 @@ fn until_end<L: Link, P: Picture>(
 {
     while let Some(call) = calls.next() {
         match call {
-            Call::Ink(gray) => note(answers, Answer::Judged(pen.ink(*gray))),
-            Call::Dot(x, y) => note(answers, Answer::Judged(screen.dot(pen, *x, *y))),
-            Call::Bar(x, y, w, h) => {
-                note(answers, Answer::Judged(screen.bar(pen, *x, *y, *w, *h)));
-            }
-            Call::Place(picture, x, y) => {
-                note(answers, Answer::Judged(screen.place(pen, picture, *x, *y)));
-            }
+            Call::Ink(gray) => judge(answers, pen.ink(*gray)),
+            Call::Dot(x, y) => judge(answers, screen.dot(pen, *x, *y)),
+            Call::Bar(x, y, w, h) => judge(answers, screen.bar(pen, *x, *y, *w, *h)),
+            Call::Place(picture, x, y) => judge(answers, screen.place(pen, picture, *x, *y)),
             Call::Flush(n) => note(answers, Answer::Flushed(screen.flush(*n))),
             Call::Narrow(x, y, w, h) => match Rectangle::new(*x, *y, *w, *h) {
-                Err(refusal) => note(answers, Answer::Judged(Err(refusal))),
+                Err(refusal) => judge(answers, Err(refusal)),
                 Ok(rectangle) => {
-                    note(answers, Answer::Judged(Ok(())));
+                    judge(answers, Ok(()));
                     let narrowed = pen.narrow(rectangle);
                     let ended = until_end(screen, narrowed.pen, calls, answers);
                     narrowed.end();

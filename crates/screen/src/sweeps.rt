@@ -89,6 +89,9 @@ impl<L: Link> Slot<'_, L> {
     {
         // By number: a block takes marks of the lines below too, and a line is looked at again until it has no run.
         for y in 0..128u8 {
+            if self.left < 8 {
+                return;
+            }
             while let Some(run) = first_run(due[y as usize]) {
                 if self.left < 8 {
                     return;

@@ -16,7 +16,7 @@ loop-call-preserved-in-Ink g t c =
     let n = c.in-Ink in
     let inv = c.loop-call.invariant in
     let steps = c.in-Some.ensures.steps in
-    let note = c.note in
+    let note = c.judge in
     let one = ap length steps in (
       tt,
       tt,
@@ -31,7 +31,7 @@ loop-call-preserved-in-Dot g t c =
     let n = c.in-Dot in
     let inv = c.loop-call.invariant in
     let steps = c.in-Some.ensures.steps in
-    let note = c.note-in-Dot in
+    let note = c.judge-in-Dot in
     let fx : SFits w32 n.x = search rules in
     let fy : SFits w32 n.y = search rules in
     let one = ap length steps in (
@@ -48,7 +48,7 @@ loop-call-preserved-in-Bar g t c =
     let n = c.in-Bar in
     let inv = c.loop-call.invariant in
     let steps = c.in-Some.ensures.steps in
-    let note = c.note-in-Bar in
+    let note = c.judge-in-Bar in
     let fx : SFits w32 n.x = search rules in
     let fy : SFits w32 n.y = search rules in
     let one = ap length steps in (
@@ -65,7 +65,7 @@ loop-call-preserved-in-Place g t c =
     let n = c.in-Place in
     let inv = c.loop-call.invariant in
     let steps = c.in-Some.ensures.steps in
-    let note = c.note-in-Place in
+    let note = c.judge-in-Place in
     let fx : SFits w32 n.x = search rules in
     let fy : SFits w32 n.y = search rules in
     let one = ap length steps in (
@@ -82,7 +82,7 @@ loop-call-preserved-in-Flush g t c =
     let n = c.in-Flush in
     let inv = c.loop-call.invariant in
     let steps = c.in-Some.ensures.steps in
-    let note = c.note-in-Flush in
+    let note = c.note in
     let one = ap length steps in (
       tt,
       tt,
@@ -97,7 +97,7 @@ loop-call-preserved-in-Err g t c =
     let n = c.in-Narrow in
     let inv = c.loop-call.invariant in
     let steps = c.in-Some.ensures.steps in
-    let note = c.note-in-Err in
+    let note = c.judge-in-Err in
     let fx : SFits w32 n.x = search rules in
     let fy : SFits w32 n.y = search rules in
     let one = ap length steps in (
@@ -120,8 +120,8 @@ returns-then-not-ended-clause-ran g t c stack =
     let inside = c.if-not-ended.ensures.ran (pen_means c.loop-call.pen ∷ stack) in (
       suc inside.0,
       left_open g.L.Link k c.args.calls.now.rest.now c.loop-call.calls.rest.now stack _ c.loop-call.screen c.until_end-ended.new.screen c.loop-call.pen c.narrow-narrowed.result.pen.now c.until_end-ended.new.pen
-          _ _ (vec_items c.note-in-Ok.new.answers) (vec_items c.until_end-ended.new.answers) c.in-Some.call.now c.next.new.self.rest.now n.x n.y n.w n.h _
-          (inv.4 stack) c.in-Some.ensures.steps n.is c.note-in-Ok.ensures.items boxed.0 boxed.1 c.narrow-narrowed.ensures.narrows
+          _ _ (vec_items c.judge-in-Ok.new.answers) (vec_items c.until_end-ended.new.answers) c.in-Some.call.now c.next.new.self.rest.now n.x n.y n.w n.h _
+          (inv.4 stack) c.in-Some.ensures.steps n.is c.judge-in-Ok.ensures.items boxed.0 boxed.1 c.narrow-narrowed.ensures.narrows
           _ (let f = c.end.ensures.former in let o = c.narrow-narrowed.ensures.was in let q = c.narrow-narrowed.ensures.same in search rules)
           inside.0 inside.1,
     )
@@ -141,12 +141,12 @@ loop-call-preserved g t c =
       tt,
       tt,
       omega (arith, inv.2, fewer),
-      omega (arith, room, c.note-in-Ok-2.ensures.len, c.note-in-Ok-2.ensures.capacity),
+      omega (arith, room, c.note-in-Ok.ensures.len, c.note-in-Ok.ensures.capacity),
       λ stack. ended_here g.L.Link k c.args.calls.now.rest.now c.loop-call.calls.rest.now stack _ c.loop-call.screen c.until_end-ended.new.screen c.loop-call.pen c.narrow-narrowed.result.pen.now c.until_end-ended.new.pen
-          _ _ (vec_items c.note-in-Ok.new.answers) (vec_items c.until_end-ended.new.answers) c.in-Some.call.now c.next.new.self.rest.now n.x n.y n.w n.h _
-          (inv.4 stack) c.in-Some.ensures.steps n.is c.note-in-Ok.ensures.items boxed.0 boxed.1 c.narrow-narrowed.ensures.narrows
+          _ _ (vec_items c.judge-in-Ok.new.answers) (vec_items c.until_end-ended.new.answers) c.in-Some.call.now c.next.new.self.rest.now n.x n.y n.w n.h _
+          (inv.4 stack) c.in-Some.ensures.steps n.is c.judge-in-Ok.ensures.items boxed.0 boxed.1 c.narrow-narrowed.ensures.narrows
           _ (let f = c.end.ensures.former in let o = c.narrow-narrowed.ensures.was in let q = c.narrow-narrowed.ensures.same in search rules)
-          (vec_items c.note-in-Ok-2.new.answers) c.until_end-ended.new.calls.rest.now (c.if-not-ended.ensures.ran (pen_means c.loop-call.pen ∷ stack)) c.note-in-Ok-2.ensures.items,
+          (vec_items c.note-in-Ok.new.answers) c.until_end-ended.new.calls.rest.now (c.if-not-ended.ensures.ran (pen_means c.loop-call.pen ∷ stack)) c.note-in-Ok.ensures.items,
     )
 
 pub returns-clause-ran : goal.returns-clause-ran

@@ -23,7 +23,7 @@ fn write_answers<W: Write>(out: &mut W, outcome: &Outcome) -> io::Result<()> {
         if let Some(refusal) = *refused {
             writeln!(out, "{}", refusal.number())?;
         } else if let Some(answer) = answers.next() {
-            writeln!(out, "{}", Printed(*answer))?;
+            write!(out, "{}", Printed(*answer))?;
         }
     }
     Ok(())

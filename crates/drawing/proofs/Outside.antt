@@ -1,5 +1,5 @@
 -- Filling the common part of a clip and a rectangle draws within both, and a picture shows nothing outside its rectangle.
-use Rattle.std.proofs.Common.{◌≡◌, ℕ, ◌<◌, Bool, true, false, cond, ◌&&◌, ◌||◌, ltb, leb, ◌⊎◌, ℤ, pos, negsuc, ◌+ℤ◌, ◌-ℤ◌, Some, None, Option, sym, refl, ap, ◌∙◌, inl, inr, ⊎_elim, arith}
+use Rattle.std.proofs.Common.{◌≡◌, ℕ, ◌<◌, ◌≤◌, min, Bool, true, false, cond, ◌&&◌, ◌||◌, ltb, leb, ◌⊎◌, ℤ, pos, negsuc, ◌+ℤ◌, ◌-ℤ◌, Some, None, Option, sym, refl, ap, ◌∙◌, inl, inr, ⊎_elim, arith}
 use lib.Signed.{le_z, lt_z}
 use Rattle.std.proofs.lemmas.Int.{ints}
 use Rattle.std.proofs.lemmas.Bool.{cases_lt, lt-ltb, le-ltb, and_cases, or_cases}
@@ -53,11 +53,12 @@ covered_inside x y w h p q hp hq = rw (clamp_from x p hp, clamp_to (x +ℤ pos w
 from_zero : (n : ℕ) → behind (pos n -ℤ pos 0) ≡ Some n
 from_zero n = let e : pos n -ℤ pos 0 ≡ pos n = omega (arith, ints) in ap behind e
 
-pub solid_placed : (g p q : ℕ) → p < 128 → q < 128 → placed (solid g) (pos 0) (pos 0) p q ≡ Some g
+pub solid_placed : (g p q : ℕ) → g ≤ 15 → p < 128 → q < 128 → placed (solid g) (pos 0) (pos 0) p q ≡ Some g
 unfolding placed
-solid_placed g p q hp hq =
+solid_placed g p q hg hp hq =
+    let least : min g 15 ≡ g = omega arith in
     ap (λ o. at_both (seen (solid g)) o (behind (pos q -ℤ pos 0))) (from_zero p) ∙ ap (λ o. at_both (seen (solid g)) (Some p) o) (from_zero q)
-    ∙ rw (lt-ltb p 128 hp, lt-ltb q 128 hq)
+    ∙ rw (lt-ltb p 128 hp, lt-ltb q 128 hq, least)
 
 -- nothing is shown outside the rectangle of a picture
 behind_some : (z : ℤ) (m : ℕ) → behind z ≡ Some m → z ≡ pos m
@@ -85,11 +86,11 @@ placed_outside P x y p q e =
     (⊎_elim (λ c. inl (λ m s. too_far x P.width p m c s)) (λ c. inr (λ m s. too_far y P.height q m c s)) (and_cases (covers x P.width p) (covers y P.height q) e))
 
 -- a bar is filled with one gray
-pub bar_drawn : (c d : Canvas) (pen : PenMeaning) (x y : ℤ) (w h : ℕ)
+pub bar_drawn : (c d : Canvas) (pen : PenMeaning) (x y : ℤ) (w h : ℕ) → pen.ink ≤ 15
     → Drawn c (clipped (placed (solid pen.ink) (pos 0) (pos 0)) (common pen.clip (covered x y w h))) d → Drawn c (bar_paint pen x y w h) d
-bar_drawn c d pen x y w h so =
+bar_drawn c d pen x y w h small so =
     drawn_like c d _ (bar_paint pen x y w h)
-    (λ p q hp hq. ap (λ o. cond (inside (common pen.clip (covered x y w h)) p q) o None) (solid_placed pen.ink p q hp hq)
+    (λ p q hp hq. ap (λ o. cond (inside (common pen.clip (covered x y w h)) p q) o None) (solid_placed pen.ink p q small hp hq)
     ∙ ap (λ b. cond b (Some pen.ink) None) (common_inside pen.clip (covered x y w h) p q ∙ ap (λ b. inside pen.clip p q && b) (covered_inside x y w h p q hp hq))) so
 
 cut : (a b : Bool) (o : Option ℕ) → (b ≡ false → o ≡ None) → cond (a && b) o None ≡ cond a o None

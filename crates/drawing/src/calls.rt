@@ -22,7 +22,7 @@ struct Solid {
 impl Picture for Solid {
     ghost means = { λ s. solid s.gray };
 
-    ghost lawful = { λ s. solid_lawful s.gray s.shade };
+    ghost lawful = { λ s. solid_lawful s.gray };
 
     fn width(&self) -> u32 {
         128

@@ -15,7 +15,7 @@ returns c =
     let pen = pen_means c.args.pen.now in
     let made = simp to_z-of_z at c.in_ok-rectangle.ensures in
     let part = c.common-part.ensures ∙ ap (common pen.clip) made.1 in
-    let drawn = bar_drawn c.args.self.now c.fill.new.self pen x y w h
+    let drawn = bar_drawn c.args.self.now c.fill.new.self pen x y w h c.args.pen.now.setting.gray
     (subst (λ a. Drawn c.args.self.now (clipped (placed (solid pen.ink) (pos 0) (pos 0)) a) c.fill.new.self) part c.fill.ensures) in
     record {
       painted = (made.0, drawn);

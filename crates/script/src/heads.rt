@@ -1,4 +1,6 @@
-// The first two lines of a script.
+// The first two lines of a script. Reading them takes no memory, so none is ever wanting.
+ghost use Rattle.std.specs.Prelude.{◌≡◌, IfErr};
+ghost use Rattle.script.specs.declared.fault.Fault.TheVariants.{Unreadable};
 ghost use Rattle.script.specs.Faults.{Reads, Takes};
 ghost use Rattle.script.specs.Heads.{card_by, card, buffer};
 
@@ -8,7 +10,8 @@ use crate::script::Card;
 use crate::words::Marks;
 
 fn take_card(fields: &mut Fields<'_>) -> Result<Card, Fault>
-    ensures { Takes (λ x. x) card_by fields.old fields.new result }
+    ensures said { Takes (λ x. x) card_by fields.old fields.new result }
+    ensures plain { IfErr result (λ fault. fault ≡ Unreadable) }
 {
     let Marks {
         mirrored,
@@ -26,7 +29,8 @@ fn take_card(fields: &mut Fields<'_>) -> Result<Card, Fault>
 
 // The line of the module's card, without its newline.
 pub fn read_card(text: &[u8]) -> Result<Card, Fault>
-    ensures { Reads (λ x. x) (card text.now) result }
+    ensures said { Reads (λ x. x) (card text.now) result }
+    ensures plain { IfErr result (λ fault. fault ≡ Unreadable) }
 {
     let mut fields = Fields::of(text);
     fields.word(b"card")?;
@@ -36,7 +40,8 @@ pub fn read_card(text: &[u8]) -> Result<Card, Fault>
 
 // The line of the buffer's size, without its newline.
 pub fn read_buffer(text: &[u8]) -> Result<u32, Fault>
-    ensures { Reads (λ x. x) (buffer text.now) result }
+    ensures said { Reads (λ x. x) (buffer text.now) result }
+    ensures plain { IfErr result (λ fault. fault ≡ Unreadable) }
 {
     let mut fields = Fields::of(text);
     fields.word(b"buffer")?;

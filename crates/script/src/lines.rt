@@ -1,4 +1,8 @@
 // Lines, by the word that begins them.
+ghost use Rattle.std.specs.Prelude.{◌≡◌, ◌≢◌, IfErr};
+ghost use Rattle.script.specs.declared.fault.Fault.TheVariants.{Unreadable};
+ghost use Rattle.script.specs.declared.fault.Unmade.TheVariants.{NotRead};
+ghost use Rattle.script.specs.declared.words.Verb.TheVariants.{Place};
 ghost use Rattle.script.specs.Faults.{Reads, TakesOrRefuses};
 ghost use Rattle.script.specs.Calls.{line_means, call_means, refuses};
 ghost use Rattle.script.specs.Lines.{line_by, line};
@@ -14,7 +18,8 @@ use screen::Call;
 use std::alloc::Global;
 
 fn take_call(heap: Global, verb: Verb, fields: &mut Fields<'_>) -> Result<Call<Figure>, Unmade>
-    ensures { TakesOrRefuses call_means refuses (line_by verb) fields.old fields.new result }
+    ensures said { TakesOrRefuses call_means refuses (line_by verb) fields.old fields.new result }
+    ensures plain { verb ≢ Place → IfErr result (λ unmade. unmade ≡ NotRead Unreadable) }
 {
     match verb {
         Verb::Ink => {

@@ -1,5 +1,6 @@
 // What the fields of a line say, taken from the front.
-ghost use Rattle.std.specs.Prelude.{vec_items};
+ghost use Rattle.std.specs.Prelude.{◌≡◌, IfErr, vec_items};
+ghost use Rattle.script.specs.declared.fault.Fault.TheVariants.{Unreadable};
 ghost use Rattle.script.specs.Words.{word};
 ghost use Rattle.script.specs.Readings.{field, corner, extent, part};
 ghost use Rattle.script.specs.Faults.{Takes};
@@ -15,7 +16,8 @@ use std::alloc::Global;
 impl<'a> Fields<'a> {
     // What the next field says.
     pub fn read<T: Field>(&mut self) -> Result<T, Fault>
-        ensures { Takes (λ x. x) (field T.says) self.old self.new result }
+        ensures said { Takes (λ x. x) (field T.says) self.old self.new result }
+        ensures plain { IfErr result (λ fault. fault ≡ Unreadable) }
     {
         let field = self.next().ok_or(Fault::Unreadable)?;
         T::read(field).ok_or(Fault::Unreadable)
@@ -23,7 +25,8 @@ impl<'a> Fields<'a> {
 
     // One word, and no other.
     pub fn word(&mut self, name: &[u8]) -> Result<(), Fault>
-        ensures { Takes (λ x. x) (field (word name.now)) self.old self.new result }
+        ensures said { Takes (λ x. x) (field (word name.now)) self.old self.new result }
+        ensures plain { IfErr result (λ fault. fault ≡ Unreadable) }
     {
         match self.next() {
             Some(field) if name == field => Ok(()),
@@ -33,7 +36,8 @@ impl<'a> Fields<'a> {
 
     // Two numbers of one kind, as `extent` has two of another: one function for both would be no shorter.
     pub fn corner(&mut self) -> Result<Corner, Fault>
-        ensures { Takes (λ x. x) corner self.old self.new result }
+        ensures said { Takes (λ x. x) corner self.old self.new result }
+        ensures plain { IfErr result (λ fault. fault ≡ Unreadable) }
     {
         let x = self.read()?;
         let y = self.read()?;
@@ -41,7 +45,8 @@ impl<'a> Fields<'a> {
     }
 
     pub fn extent(&mut self) -> Result<Extent, Fault>
-        ensures { Takes (λ x. x) extent self.old self.new result }
+        ensures said { Takes (λ x. x) extent self.old self.new result }
+        ensures plain { IfErr result (λ fault. fault ≡ Unreadable) }
     {
         let width = self.read()?;
         let height = self.read()?;
@@ -49,7 +54,8 @@ impl<'a> Fields<'a> {
     }
 
     pub fn part(&mut self) -> Result<Part, Fault>
-        ensures { Takes (λ x. x) part self.old self.new result }
+        ensures said { Takes (λ x. x) part self.old self.new result }
+        ensures plain { IfErr result (λ fault. fault ≡ Unreadable) }
     {
         let left = self.read()?;
         let top = self.read()?;
